@@ -1,0 +1,8 @@
+pub mod Checks
+pub mod Below
+pub mod Lists
+pub mod Walks
+pub mod Sets
+pub mod Words
+pub mod Bitmap
+pub mod Ages

@@ -1,0 +1,177 @@
+-- Laws of loops over a table from the front: what is done is its front, what is left is made of the rest.
+use mathlib.Core.Path.{_≡_, refl, sym, ap, _∙_}
+use mathlib.Core.Bool.{Bool, true, false, cond}
+use mathlib.Core.List.{List, [], _∷_, _++_, append-nil}
+use Prim.Native.Nat.{ℕ, zero, suc, _+_, _≤_, _<_}
+use native.Mathlib.Nat.{add-zero, add-suc, suc-add, le-of-suc-le-suc, not-suc-le-zero}
+use native.Mathlib.Numerals.{add-one}
+use native.Mathlib.Omega.{arith}
+use lib.ListN.{length, take, drop, getD, set, drop-of-length-le}
+use lib.Seq.{drop-cons, take-suc, take-suc-set, drop-set-lt, take-all, append-snoc}
+use Rattle.tables.specs.Lists.{mapFrom, countFrom, firstFrom}
+use Rattle.tables.specs.declared.Found.the-variants.{Nothing, At}
+
+-- ---- a turn at place s: the list l became m, v at s
+
+pub record Turn {A : Type 0} (l m : List A) (s : ℕ) (v : A) : Type 0 where
+  pub front : take (s + 1) m ≡ take s l ++ v ∷ []
+  pub rest : drop (s + 1) m ≡ drop (s + 1) l
+
+module _ {A : Type 0} (l : List A) (s : ℕ) (h : s < length l) where
+  pub stored : (v : A) → Turn l (set l s v) s v
+  stored v = let k : s < suc s = omega arith in record {
+    front = rw (add-one s) (take-suc-set l s v h);
+    rest = rw (add-one s) (drop-set-lt (suc s) l s v k);
+  }
+
+  pub kept : (d : A) → Turn l l s (getD l s d)
+  kept d = record { front = rw (add-one s) (take-suc l s d h); rest = refl }
+
+module _ {A : Type 0} {l m : List A} {s : ℕ} {v : A} (d : A) (h : s < length l) (t : Turn l m s v) where
+  -- the table: its front is done, its rest is to be mapped
+  pub map-turn : (f : ℕ → A → A) → f s (getD l s d) ≡ v → take s l ++ mapFrom f s (drop s l) ≡ take (s + 1) m ++ mapFrom f (s + 1) (drop (s + 1) m)
+  unfolding mapFrom
+  map-turn f e = rw (t .front, t .rest, add-one s, drop-cons l s d h, append-snoc, ← e)
+
+  -- a count: what was counted, and what the rest comes to
+  pub count-hit : (p : ℕ → A → Bool) (n : ℕ) → p s (getD l s d) ≡ true → n + countFrom p s (drop s l) ≡ n + 1 + countFrom p (s + 1) (drop (s + 1) m)
+  unfolding countFrom
+  count-hit p n e = rw (t .rest, add-one s, drop-cons l s d h, countFrom, e) (omega arith)
+
+  pub count-miss : (p : ℕ → A → Bool) (n : ℕ) → p s (getD l s d) ≡ false → n + countFrom p s (drop s l) ≡ n + countFrom p (s + 1) (drop (s + 1) m)
+  unfolding countFrom
+  count-miss p n e = rw (t .rest, add-one s, drop-cons l s d h, countFrom, e)
+
+  -- a search: what the rest finds
+  pub first-hit : (p : ℕ → A → Bool) → p s (getD l s d) ≡ true → firstFrom p s (drop s l) ≡ At s
+  unfolding firstFrom
+  first-hit p e = rw (drop-cons l s d h, firstFrom, e)
+
+  pub first-miss : (p : ℕ → A → Bool) → p s (getD l s d) ≡ false → firstFrom p s (drop s l) ≡ firstFrom p (s + 1) (drop (s + 1) m)
+  unfolding firstFrom
+  first-miss p e = rw (t .rest, add-one s, drop-cons l s d h, firstFrom, e)
+
+-- ---- a rest in which nothing changes, nothing counts and nothing is found
+
+pub map-kept : {A : Type 0} (f : ℕ → A → A) (i : ℕ) (l : List A) → ((k : ℕ) (x : A) → i ≤ k → k < i + length l → f k x ≡ x) → mapFrom f i l ≡ l
+unfolding mapFrom
+map-kept f i [] e = refl
+map-kept f i (x ∷ l) e = rw (e i x (omega arith) (omega arith), map-kept f (suc i) l (λ k y h g. e k y (omega arith) (omega arith)))
+
+pub count-none : {A : Type 0} (p : ℕ → A → Bool) (i : ℕ) (l : List A) → ((k : ℕ) (x : A) → i ≤ k → k < i + length l → p k x ≡ false) → countFrom p i l ≡ 0
+unfolding countFrom
+count-none p i [] e = refl
+count-none p i (x ∷ l) e = rw (e i x (omega arith) (omega arith)) (count-none p (suc i) l (λ k y h g. e k y (omega arith) (omega arith)))
+
+pub first-none : {A : Type 0} (p : ℕ → A → Bool) (i : ℕ) (l : List A) → ((k : ℕ) (x : A) → i ≤ k → k < i + length l → p k x ≡ false) → firstFrom p i l ≡ Nothing
+unfolding firstFrom
+first-none p i [] e = refl
+first-none p i (x ∷ l) e = rw (e i x (omega arith) (omega arith)) (first-none p (suc i) l (λ k y h g. e k y (omega arith) (omega arith)))
+
+-- ---- a mapped table by its places
+
+pub length-mapped : {A B : Type 0} (f : ℕ → A → B) (i : ℕ) (l : List A) → length (mapFrom f i l) ≡ length l
+unfolding mapFrom
+length-mapped f i [] = refl
+length-mapped f i (x ∷ l) = ap suc (length-mapped f (suc i) l)
+
+pub mapped-at : {A B : Type 0} (f : ℕ → A → B) (i : ℕ) (l : List A) (k : ℕ) (d : A) (e : B) → k < length l → getD (mapFrom f i l) k e ≡ f (i + k) (getD l k d)
+unfolding mapFrom
+mapped-at f i [] k d e h = absurd (not-suc-le-zero h)
+mapped-at f i (x ∷ l) zero d e h = rw add-zero
+mapped-at f i (x ∷ l) (suc k) d e h = mapped-at f (suc i) l k d e (le-of-suc-le-suc h) ∙ rw (suc-add i k, add-suc i k)
+
+-- ---- a count by what changed
+
+-- how many places of two lists pass a test of the old entry and the new one
+unfoldable pub changes : {A : Type 0} → (A → A → Bool) → List A → List A → ℕ
+changes p [] ys = 0
+changes p (x ∷ xs) [] = 0
+changes p (x ∷ xs) (y ∷ ys) = cond (p x y) (suc (changes p xs ys)) (changes p xs ys)
+
+-- two tests that agree at every place count the same
+pub counted : {A : Type 0} (p : ℕ → A → Bool) (g : A → A → Bool) (f : ℕ → A → A) → ((s : ℕ) (x : A) → p s x ≡ g x (f s x)) → (i : ℕ) (xs : List A) → countFrom p i xs ≡ changes g xs (mapFrom f i xs)
+unfolding countFrom changes mapFrom
+counted p g f h i [] = refl
+counted p g f h i (x ∷ xs) = rw (h i x, counted p g f h (suc i) xs)
+
+-- ---- a search by its place
+
+-- a search that has come to place i
+module _ {A : Type 0} (p : ℕ → A → Bool) (xs : List A) (i : ℕ) where
+  pub first-here : (d : A) → i < length xs → p i (getD xs i d) ≡ true → firstFrom p i (drop i xs) ≡ At i
+  unfolding firstFrom
+  first-here d h e = rw (drop-cons xs i d, e)
+
+  pub first-past : (d : A) → i < length xs → p i (getD xs i d) ≡ false → firstFrom p i (drop i xs) ≡ firstFrom p (i + 1) (drop (i + 1) xs)
+  unfolding firstFrom
+  first-past d h e = rw (drop-cons xs i d, e, add-one i)
+
+  pub first-ended : length xs ≤ i → firstFrom p i (drop i xs) ≡ Nothing
+  unfolding firstFrom
+  first-ended h = rw (drop-of-length-le xs h)
+
+-- what is found stands within the list
+pub first-within : {A : Type 0} (p : ℕ → A → Bool) (xs : List A) (i k : ℕ) → firstFrom p i xs ≡ At k → k < i + length xs
+unfolding firstFrom
+first-within p [] i k e = let z : _≡_ {A = ℕ} 0 1 = cc in absurd (omega arith)
+first-within {A} p (x ∷ xs) i k e = go (p i x) (first-within p xs (suc i) k) e
+  where
+    go : (t : Bool) → (firstFrom p (suc i) xs ≡ At k → k < suc i + length xs) → cond t (At i) (firstFrom p (suc i) xs) ≡ At k → k < i + length (x ∷ xs)
+    go true ih h = let z : i ≡ k = cc in omega arith
+    go false ih h = omega (arith, ih h)
+
+-- nothing below s passes
+pub record Looked (p : ℕ → ℕ → Bool) (xs : List ℕ) (s : ℕ) : Type 0 where
+  pub within : s ≤ length xs
+  pub rest : firstFrom p 0 xs ≡ firstFrom p s (drop s xs)
+
+pub looked-none : (p : ℕ → ℕ → Bool) (xs : List ℕ) → Looked p xs 0
+looked-none p xs = record { within = omega arith; rest = refl }
+
+pub looked-more : (p : ℕ → ℕ → Bool) (xs : List ℕ) (s : ℕ) → Looked p xs s → s < length xs → p s (getD xs s 0) ≡ false → Looked p xs (s + 1)
+unfolding firstFrom
+looked-more p xs s l h e = record { within = omega arith; rest = l .rest ∙ rw (add-one s, drop-cons xs s 0 h, e) }
+
+pub looked-here : (p : ℕ → ℕ → Bool) (xs : List ℕ) (s : ℕ) → Looked p xs s → s < length xs → p s (getD xs s 0) ≡ true → At s ≡ firstFrom p 0 xs
+unfolding firstFrom
+looked-here p xs s l h e = sym (l .rest ∙ rw (drop-cons xs s 0 h, e))
+
+pub looked-all : (p : ℕ → ℕ → Bool) (xs : List ℕ) (s : ℕ) → Looked p xs s → length xs ≤ s → Nothing ≡ firstFrom p 0 xs
+unfolding firstFrom
+looked-all p xs s l h = sym (l .rest ∙ rw (drop-of-length-le xs h))
+
+-- ---- what a search says of every entry
+
+pub none-passes : (p : ℕ → ℕ → Bool) (i : ℕ) (xs : List ℕ) → firstFrom p i xs ≡ Nothing → (k : ℕ) → k < length xs → p (i + k) (getD xs k 0) ≡ false
+unfolding firstFrom
+none-passes p i [] e k h = absurd (not-suc-le-zero h)
+none-passes p i (x ∷ xs) e k h = go (p i x) refl e k h (none-passes p (suc i) xs)
+  where
+    go : (t : Bool) → p i x ≡ t → cond t (At i) (firstFrom p (suc i) xs) ≡ Nothing → (k : ℕ) → k < length (x ∷ xs)
+        → (firstFrom p (suc i) xs ≡ Nothing → (k : ℕ) → k < length xs → p (suc i + k) (getD xs k 0) ≡ false) → p (i + k) (getD (x ∷ xs) k 0) ≡ false
+    go true q e k h f = let z : _≡_ {A = ℕ} 0 1 = cc in absurd (omega arith)
+    go false q e zero h f = rw add-zero q
+    go false q e (suc k) h f = rw (add-suc i k, ← suc-add i k) (f e k (le-of-suc-le-suc h))
+
+pub none-found : (p : ℕ → ℕ → Bool) (i : ℕ) (xs : List ℕ) → ((k : ℕ) → k < length xs → p (i + k) (getD xs k 0) ≡ false) → firstFrom p i xs ≡ Nothing
+unfolding firstFrom
+none-found p i [] f = refl
+none-found p i (x ∷ xs) f =
+    let z : p i x ≡ false = rw (add-zero i) at (f 0 (omega arith)) in
+    rw z (none-found p (suc i) xs (λ k h. rw (suc-add i k, ← add-suc i k) (f (suc k) (omega arith))))
+
+-- ---- a table rewritten from the front
+
+-- the entries of l below s are rewritten, the others are still a's
+pub record Rewritten (f : ℕ → ℕ → ℕ) (a l : List ℕ) (s : ℕ) : Type 0 where
+  pub within : s ≤ length a
+  pub long : length l ≡ length a
+  pub rest : mapFrom f 0 a ≡ take s l ++ mapFrom f s (drop s l)
+
+pub rewritten-none : (f : ℕ → ℕ → ℕ) (a : List ℕ) → Rewritten f a a 0
+rewritten-none f a = record { within = omega arith; long = refl; rest = refl }
+
+pub rewritten-all : (f : ℕ → ℕ → ℕ) (a l : List ℕ) (s : ℕ) → Rewritten f a l s → length l ≤ s → l ≡ mapFrom f 0 a
+unfolding mapFrom
+rewritten-all f a l s r h = sym (r .rest ∙ rw (drop-of-length-le l h, append-nil, take-all s l h))

@@ -1,0 +1,5 @@
+pub mod Sizes
+pub mod Checks
+pub mod Below
+pub mod Lists
+pub mod Sets

@@ -1,0 +1,36 @@
+-- A table as a list, its entries by their places, counted from 0.
+use Prim.Native.Nat.{ℕ, suc}
+use mathlib.Core.Bool.{Bool, true, false, cond}
+use mathlib.Core.List.{List, [], _∷_}
+use Rattle.tables.specs.declared.Found.{Found}
+use Rattle.tables.specs.declared.Found.the-variants.{Nothing, At}
+
+-- each of the three, with the first entry's place given
+unfoldable pub mapFrom : {A B : Type 0} → (ℕ → A → B) → ℕ → List A → List B
+mapFrom f i [] = []
+mapFrom f i (x ∷ xs) = f i x ∷ mapFrom f (suc i) xs
+
+unfoldable pub countFrom : {A : Type 0} → (ℕ → A → Bool) → ℕ → List A → ℕ
+countFrom p i [] = 0
+countFrom p i (x ∷ xs) = cond (p i x) (suc (countFrom p (suc i) xs)) (countFrom p (suc i) xs)
+
+unfoldable pub firstFrom : {A : Type 0} → (ℕ → A → Bool) → ℕ → List A → Found
+firstFrom p i [] = Nothing
+firstFrom p i (x ∷ xs) = cond (p i x) (At i) (firstFrom p (suc i) xs)
+
+-- every entry changed by its place
+abbrev pub mapAt : {A B : Type 0} → (ℕ → A → B) → List A → List B
+mapAt f xs = mapFrom f 0 xs
+
+-- how many entries pass a test of place and entry
+abbrev pub countAt : {A : Type 0} → (ℕ → A → Bool) → List A → ℕ
+countAt p xs = countFrom p 0 xs
+
+-- the lowest place that passes
+abbrev pub firstAt : {A : Type 0} → (ℕ → A → Bool) → List A → Found
+firstAt p xs = firstFrom p 0 xs
+
+-- a search found something
+abbrev pub isFound : Found → Bool
+isFound Nothing = false
+isFound (At place) = true
