@@ -1,0 +1,4 @@
+pub mod Tags
+pub mod Crc
+pub mod Slots
+pub mod Cases
