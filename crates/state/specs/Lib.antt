@@ -1,0 +1,5 @@
+pub mod Node
+pub mod Changes
+pub mod Outcomes
+pub mod Fresh
+pub mod Same
