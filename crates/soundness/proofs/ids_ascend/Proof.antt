@@ -1,0 +1,84 @@
+-- `soundness::ids_ascend` meets its contract.
+use mathlib.Core.Path.{_≡_, refl, sym}
+use mathlib.Core.Bool.{true}
+use Prim.Native.Nat.{_-_, _≤_}
+use native.Mathlib.Omega.{arith}
+use borrow.Author.Needs.{needs}
+use Rattle.tables.specs.Below.{every}
+use Rattle.tables.proofs.Checks.{no, yes}
+use Rattle.tables.proofs.Below.{every-fails, every-more}
+use Rattle.soundness.specs.Sound.{idsAscend, idInOrder}
+use Rattle.soundness.proofs.ids_ascend.Statement.{statement}
+use Rattle.soundness.proofs.ids_ascend.Tie as tie
+
+abbrev Inv-loop : tie.InvT-loop
+Inv-loop node size k₀ k = (k ≤ size - 1) × (every k (idInOrder node) ≡ true)
+
+abbrev μ-loop : tie.MeasureT-loop
+μ-loop node size k₀ k = size - k
+
+cast-size : tie.Need-cast-size Inv-loop μ-loop
+cast-size c = search needs
+
+loop-holds : tie.Need-loop-holds Inv-loop μ-loop
+unfolding every
+loop-holds c = (search needs, refl)
+
+add-loop : tie.Need-add-loop Inv-loop μ-loop
+add-loop c = search needs
+
+mul-a : tie.Need-mul-a Inv-loop μ-loop
+mul-a c = search needs
+
+element-copy-out-a : tie.Need-element-copy-out-a Inv-loop μ-loop
+element-copy-out-a c = search needs
+
+add-b : tie.Need-add-b Inv-loop μ-loop
+add-b c = search needs
+
+mul-b : tie.Need-mul-b Inv-loop μ-loop
+mul-b c = search needs
+
+element-copy-out-b : tie.Need-element-copy-out-b Inv-loop μ-loop
+element-copy-out-b c = search needs
+
+earlier-requires : tie.Need-earlier-requires Inv-loop μ-loop
+earlier-requires c κs = search needs
+
+returns : tie.Need-returns Inv-loop μ-loop
+unfolding idsAscend
+returns c = every-fails _ _ _ (omega arith) (no (c .before .earlier .ensures) (c .if1 .taken))
+
+add-k : tie.Need-add-k Inv-loop μ-loop
+add-k c = search needs
+
+loop-less : tie.Need-loop-less Inv-loop μ-loop
+loop-less c = search needs
+
+loop-again : tie.Need-loop-again Inv-loop μ-loop
+loop-again c = let l = c .before .before .before .before .before in (search needs, every-more _ _ (l .loop .inv .1) (yes (c .before .earlier .ensures) (c .if1 .left)))
+
+returns-2 : tie.Need-returns-2 Inv-loop μ-loop
+unfolding idsAscend
+returns-2 c = let e : c .before .loop .k ≡ c .before .before .args .t1 .size - 1 = omega arith in sym (rw e at (c .before .loop .inv .1))
+
+pub ids-ascend-spec : {M : Type 1} → statement M
+ids-ascend-spec =
+    tie.close
+    (tie.spec
+    Inv-loop
+    μ-loop
+    cast-size
+    loop-holds
+    add-loop
+    mul-a
+    element-copy-out-a
+    add-b
+    mul-b
+    element-copy-out-b
+    earlier-requires
+    returns
+    add-k
+    loop-less
+    loop-again
+    returns-2)
