@@ -1,0 +1,5 @@
+pub mod Loops
+pub mod Lists
+pub mod Kept
+pub mod Marked
+pub mod Replies

@@ -1,0 +1,146 @@
+-- Where a key goes (01, "Redirections"): the replies in 01's words, which is given when, and what a reply names.
+use Prim.Native.Nat.{ℕ, _<_}
+use mathlib.Core.Path.{_≡_}
+use mathlib.Core.Bool.{Bool, true, false, cond, not}
+use mathlib.Core.List.{List, [], _∷_}
+use lib.ListN.{length, getD}
+use lib.Dec.{eqb}
+use Rattle.tables.specs.Sizes.{slotCount}
+use Rattle.tables.specs.Checks.{checked, allOf, anyOf}
+use Rattle.slots.specs.Key.{keySlot}
+use Rattle.state.specs.Node.{listed}
+use Rattle.state.specs.declared.Node.{Node}
+use Rattle.state.specs.declared.Move.the-variants.{Migrating, Importing}
+use Rattle.soundness.specs.Sound.{sound}
+use Rattle.routing.specs.Marks.{markingAt}
+use Rattle.routing.specs.declared.Marking.{Marking}
+use Rattle.routing.specs.declared.Marking.the-variants.{Unmarked, Moving}
+use Rattle.routing.specs.declared.Redirect.{Redirect}
+use Rattle.routing.specs.declared.Redirect.the-variants.{WrongLength, Unsound, Down, Serve, Ask, Moved}
+
+-- ---- the replies
+
+-- a refusal with its number, or one of the four words with its values: ASK(slot, peer), MOVED(slot, owner)
+pub data Reply : Type 0 where
+  refused : ℕ → Reply
+  down : Reply
+  serve : Reply
+  ask : ℕ → ℕ → Reply
+  moved : ℕ → ℕ → Reply
+
+-- what each case of the code's answer says
+abbrev pub reply : Redirect → Reply
+reply WrongLength = refused 1
+reply Unsound = refused 7
+reply Down = down
+reply Serve = serve
+reply (Ask s peer) = ask s peer
+reply (Moved s owner) = moved s owner
+
+-- ---- which is given
+
+-- a slot's entry
+abbrev pub ownerAt : List ℕ → ℕ → ℕ
+ownerAt slots s = getD slots s 0
+
+-- this node owns the slot
+abbrev pub isOwn : Node → List ℕ → ℕ → Bool
+isOwn n slots s = eqb (ownerAt slots s) (n .me)
+
+abbrev pub isMigrating : Marking → Bool
+isMigrating Unmarked = false
+isMigrating (Moving (Migrating peer)) = true
+isMigrating (Moving (Importing peer)) = false
+
+abbrev pub isImporting : Marking → Bool
+isImporting Unmarked = false
+isImporting (Moving (Migrating peer)) = false
+isImporting (Moving (Importing peer)) = true
+
+-- owner is this node: marked migrating and key absent gives ASK, else serve
+abbrev pub atHome : ℕ → Bool → Marking → Reply
+atHome s present Unmarked = serve
+atHome s present (Moving (Migrating peer)) = cond present serve (ask s peer)
+atHome s present (Moving (Importing peer)) = serve
+
+-- owner is another: marked importing and asking gives serve, else MOVED
+abbrev pub elsewhere : ℕ → ℕ → Bool → Marking → Reply
+elsewhere s owner asking marking = cond (allOf (isImporting marking ∷ asking ∷ [])) serve (moved s owner)
+
+-- a slot that has this owner, first of all unowned
+abbrev pub redirected : Node → List ℕ → ℕ → Bool → Bool → Reply
+redirected n slots s present asking =
+    cond (not (listed n (ownerAt slots s))) down
+    (cond (isOwn n slots s) (atHome s present (markingAt n s)) (elsewhere s (ownerAt slots s) asking (markingAt n s)))
+
+-- refusals 1, then 7; then by the key's slot
+unfoldable pub routed : Node → List ℕ → List ℕ → Bool → Bool → Reply
+routed n slots key present asking =
+    checked refused ((not (eqb (length slots) slotCount), 1) ∷ (not (sound n), 7) ∷ [])
+    (redirected n slots (keySlot key) present asking)
+
+-- ---- which is given exactly when; `proofs/Replies.antt` proves it of `routed`
+
+abbrev pub isRefused : Reply → Bool
+isRefused (refused k) = true
+isRefused down = false
+isRefused serve = false
+isRefused (ask s p) = false
+isRefused (moved s o) = false
+
+abbrev pub isDown : Reply → Bool
+isDown (refused k) = false
+isDown down = true
+isDown serve = false
+isDown (ask s p) = false
+isDown (moved s o) = false
+
+abbrev pub isServe : Reply → Bool
+isServe (refused k) = false
+isServe down = false
+isServe serve = true
+isServe (ask s p) = false
+isServe (moved s o) = false
+
+abbrev pub isAsk : Reply → Bool
+isAsk (refused k) = false
+isAsk down = false
+isAsk serve = false
+isAsk (ask s p) = true
+isAsk (moved s o) = false
+
+abbrev pub isMoved : Reply → Bool
+isMoved (refused k) = false
+isMoved down = false
+isMoved serve = false
+isMoved (ask s p) = false
+isMoved (moved s o) = true
+
+-- the call is not refused
+abbrev pub isTaken : Node → List ℕ → Bool
+isTaken n slots = allOf (eqb (length slots) slotCount ∷ sound n ∷ [])
+
+-- by: the call is taken, the slot is owned, this node owns it, the key is present, ASKING came first, the slot's mark
+pub record Exactly (taken owned own present asking : Bool) (marking : Marking) (r : Reply) : Type 0 where
+  pub refused : isRefused r ≡ not taken
+  pub down : isDown r ≡ allOf (taken ∷ not owned ∷ [])
+  pub ask : isAsk r ≡ allOf (taken ∷ owned ∷ own ∷ isMigrating marking ∷ not present ∷ [])
+  pub moved : isMoved r ≡ allOf (taken ∷ owned ∷ not own ∷ not (allOf (isImporting marking ∷ asking ∷ [])) ∷ [])
+  pub serve : isServe r ≡ allOf (taken ∷ owned ∷ cond own (anyOf (not (isMigrating marking) ∷ present ∷ [])) (allOf (isImporting marking ∷ asking ∷ [])) ∷ [])
+
+-- ---- what a reply names; `proofs/Replies.antt` proves it of every MOVED and every ASK
+
+-- MOVED: the key's slot and its owner by the table, another node of the roster
+pub record MovedNames (n : Node) (slots key : List ℕ) (s owner : ℕ) : Type 0 where
+  pub key's : s ≡ keySlot key
+  pub owner's : owner ≡ ownerAt slots s
+  pub inRoster : owner < n .size
+  pub another : owner ≡ n .me → ⊥
+
+-- ASK: the key's slot, which is this node's, and the peer that it is marked migrating to, another node of the roster
+pub record AskNames (n : Node) (slots key : List ℕ) (s peer : ℕ) : Type 0 where
+  pub key's : s ≡ keySlot key
+  pub own : ownerAt slots s ≡ n .me
+  pub mark's : markingAt n s ≡ Moving (Migrating peer)
+  pub inRoster : peer < n .size
+  pub another : peer ≡ n .me → ⊥
