@@ -1,0 +1,2 @@
+pub mod Failure
+pub mod Keeps
