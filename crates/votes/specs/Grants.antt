@@ -1,0 +1,40 @@
+-- When a vote is granted: the conditions of document 01, "Vote request", each as a statement. Now is the clock.
+use Prim.Native.Nat.{ℕ, _-_, _*_, _≤_, _<_}
+use mathlib.Core.Path.{_≡_}
+use mathlib.Core.Bool.{true}
+use mathlib.Core.List.{List}
+use lib.ListN.{length, getD}
+use Rattle.tables.specs.Sets.{claimed}
+use Rattle.state.specs.Node.{recordAt}
+use Rattle.state.specs.declared.Node.{Node}
+use Rattle.state.specs.declared.Role.the-variants.{Master, Replica}
+use Rattle.state.specs.declared.Flag.the-variants.{Fail}
+use Rattle.state.specs.declared.Moment.the-variants.{At}
+
+-- a node of the roster that is recorded as a master
+pub record ListedMaster (n : Node) (k : ℕ) : Type 0 where
+  pub listed : k < n .size
+  pub master : recordAt n k .role ≡ Master
+
+-- a node of the roster that is recorded as a replica of that one
+pub record ListedReplica (n : Node) (k m : ℕ) : Type 0 where
+  pub listed : k < n .size
+  pub replica : recordAt n k .role ≡ Replica m
+
+pub record Grantable (n : Node) (slots bitmap : List ℕ) (candidate epoch config : ℕ) : Type 0 where
+  -- this node is a master
+  pub own : ListedMaster n (n .me)
+  -- the epoch is not below currentEpoch, and above lastVoteEpoch
+  pub current : n .current ≤ epoch
+  pub unvoted : n .voted < epoch
+  -- the candidate is a replica of a listed master
+  pub m : ℕ
+  pub candidate-follows : ListedReplica n candidate m
+  pub master : ListedMaster n m
+  -- that master is FAIL, since some time
+  pub since : ℕ
+  pub fail : recordAt n m .flag ≡ Fail since
+  -- no vote for one of its replicas is less than 2T old
+  pub rested : (t : ℕ) → recordAt n m .vote ≡ At t → 2 * n .timeout ≤ n .clock - t
+  -- no claimed slot has an owner in the roster with a configEpoch above the request's
+  pub owners : (slot : ℕ) → slot < length slots → claimed bitmap slot ≡ true → getD slots slot 0 < n .size → recordAt n (getD slots slot 0) .config ≤ config

@@ -1,0 +1,60 @@
+-- A vote request, past the refusals: document 01, "Vote request". Now is the clock.
+use Prim.Native.Nat.{ℕ, _-_, _*_}
+use mathlib.Core.Bool.{Bool, false, not}
+use mathlib.Core.List.{List, [], _∷_}
+use lib.Dec.{ltb, leb}
+use Rattle.tables.specs.Checks.{checked, allOf}
+use Rattle.tables.specs.Lists.{firstAt}
+use Rattle.tables.specs.Sets.{claimed}
+use Rattle.tables.specs.declared.Found.{Found}
+use Rattle.tables.specs.declared.Found.the-variants.{Nothing, At as Slot}
+use Rattle.answers.specs.declared.Answer.{Answer}
+use Rattle.answers.specs.declared.Answer.the-variants.{Granted, NotMaster, StaleEpoch, AlreadyVoted, NoListedMaster, MasterNotFailed, VotedLately, Outdated}
+use Rattle.state.specs.Node.{recordAt, masterAt, listed, isFail, roleAt, followed}
+use Rattle.state.specs.Changes.{withVote, withVoted, onRecord}
+use Rattle.state.specs.Outcomes.{answered}
+use Rattle.state.specs.declared.Node.{Node}
+use Rattle.state.specs.declared.Role.{Role}
+use Rattle.state.specs.declared.Role.the-variants.{Master, Replica}
+use Rattle.state.specs.declared.Moment.{Moment}
+use Rattle.state.specs.declared.Moment.the-variants.{Never, At}
+use Rattle.state.specs.declared.Outcome.{Outcome}
+
+-- 14: the replica of a listed master
+abbrev pub followsMaster : Node → Role → Bool
+followsMaster n Master = false
+followsMaster n (Replica m) = masterAt n m
+
+-- 16: less than 2T old
+abbrev pub lately : Node → Moment → Bool
+lately n Never = false
+lately n (At t) = ltb (n .clock - t) (2 * n .timeout)
+
+-- 11 to 16, for a candidate of that role
+abbrev pub requestChecks : Node → Role → ℕ → List (Bool × Answer)
+requestChecks n role epoch =
+    (not (masterAt n (n .me)), NotMaster)
+    ∷ (ltb epoch (n .current), StaleEpoch)
+    ∷ (leb epoch (n .voted), AlreadyVoted)
+    ∷ (not (followsMaster n role), NoListedMaster)
+    ∷ (not (isFail (recordAt n (followed role) .flag)), MasterNotFailed)
+    ∷ (lately n (recordAt n (followed role) .vote), VotedLately)
+    ∷ []
+
+-- 17: a claimed slot has an owner, anyone in the roster, with a configEpoch above the request's
+abbrev pub newer : Node → List ℕ → ℕ → ℕ → ℕ → Bool
+newer n bitmap config slot owner = allOf (claimed bitmap slot ∷ listed n owner ∷ ltb config (recordAt n owner .config) ∷ [])
+
+-- 10: lastVoteEpoch is the epoch, and the vote time of the candidate's master is now
+unfoldable pub granted : ℕ → ℕ → Node → Node
+granted m epoch n = withVoted epoch (onRecord m (withVote (At (n .clock))) n)
+
+-- 17 with the lowest such slot, else 10
+abbrev pub settled : Node → ℕ → ℕ → Found → Outcome
+settled n m epoch (Slot slot) = answered n (Outdated slot)
+settled n m epoch Nothing = answered (granted m epoch n) Granted
+
+unfoldable pub requested : Node → List ℕ → List ℕ → ℕ → ℕ → ℕ → Outcome
+requested n slots bitmap candidate epoch config =
+    let role = roleAt n candidate in
+    checked (answered n) (requestChecks n role epoch) (settled n (followed role) epoch (firstAt (newer n bitmap config) slots))
