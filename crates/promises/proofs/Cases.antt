@@ -1,0 +1,213 @@
+-- Document 01's cases that are marked with a star, all rows as one statement.
+use mathlib.Core.Path.{_≡_, refl, ap, _∙_}
+use mathlib.Core.Bool.{Bool, true, false}
+use mathlib.Core.List.{List, [], _∷_, _++_, map}
+use Prim.Native.Nat.{ℕ, zero, suc}
+use lib.Dec.{ltb}
+use lib.ListN.{length, getD, replicate}
+use Rattle.tables.specs.Sizes.{unowned, slotCount, reportCount}
+use Rattle.tables.specs.Below.{every}
+use Rattle.tables.specs.Checks.{checked, allOf}
+use Rattle.tables.specs.Lists.{firstFrom, firstAt}
+use Rattle.tables.specs.Sets.{claimed}
+use Rattle.tables.specs.declared.Found.{Found}
+use Rattle.tables.specs.declared.Found.the-variants.{Nothing, At}
+use Rattle.answers.specs.declared.Answer.the-variants.{Granted, StaleEpoch, AlreadyVoted, VotedLately, Outdated}
+use Rattle.state.specs.Node.{recordAt, listed}
+use Rattle.state.specs.Changes.{withRecord, withClock, withCurrent, withVoted, arrived}
+use Rattle.state.specs.Fresh.{freshNode}
+use Rattle.state.specs.Outcomes.{answered, Stepped}
+use Rattle.state.specs.declared.Node.{Node}
+use Rattle.state.specs.declared.Outcome.{Outcome}
+use Rattle.soundness.specs.Sound.{arraysWhole, boundsKept, before, idsAscend, recordsSound, electionSound, marksAscend, marksSound, ownClear, sound}
+use Rattle.cases.specs.Cases.{casesNode}
+use Rattle.slots.specs.Cases.{KeyRow, keyAnswered, keyRows}
+use Rattle.slots.proofs.Cases.{key-cases}
+use Rattle.frames.specs.Lines.{character, hex, bytesOf, encode}
+use Rattle.frames.specs.Hex.{isDigit, digit, allDigits, byteAt, numberAt, bytesAt}
+use Rattle.frames.specs.Frames.{frameOf, bitmapOf}
+use Rattle.frames.specs.declared.Frame.{Frame}
+use Rattle.frames.specs.declared.Frame.the-variants.{NotAFrame, Request}
+use Rattle.refusals.specs.Refusals.{isUnlisted, followsItself, namesThisNode, isBeyond, frameRefusals, refusals, refusal}
+use Rattle.answers.specs.declared.Check.{Check}
+use Rattle.answers.specs.declared.Check.the-variants.{Passed}
+use Rattle.state.specs.Node.{roleAt, followed}
+use Rattle.votes.specs.Votes.{requestChecks, newer, granted, settled, requested}
+use Rattle.node.specs.Step.{onKind, onFrame, keeping}
+use Rattle.answers.proofs.Checks.{by-check}
+use Rattle.promises.specs.Cases.{voter, slots, reports, claimOfSlot0, Asked, ask, lineOf, VoteRow, voteRows, outdatedRows, Row, key, votes, voteAnswered, votesAnswered, AllCases}
+use Rattle.promises.specs.Cases as table
+
+-- ---- one request of the table
+
+abbrev requestOf : Asked → Frame
+requestOf q = Request (q .candidate) (q .epoch) (q .config) (q .time)
+
+abbrev arrivedAt : Asked → Node → Node
+arrivedAt q n = arrived (q .time) (q .epoch) n
+
+slots-long : length slots ≡ slotCount
+unfolding slots
+slots-long = refl
+
+reports-long : length reports ≡ reportCount
+unfolding reports
+reports-long = refl
+
+-- a line that decodes and passes is the request
+asked-step : (n : Node) (q : Asked) (o : Outcome) → frameOf (lineOf q) ≡ requestOf q → refusal n slotCount reportCount (requestOf q) ≡ Passed
+    → requested (arrivedAt q n) slots (bitmapOf (lineOf q)) (q .candidate) (q .epoch) (q .config) ≡ o → onFrame n slots reports (lineOf q) ≡ keeping slots reports o
+unfolding onFrame onKind
+asked-step n q o d p e = rw (by-check, d, slots-long, reports-long, p, e)
+
+-- where no owner is newer: only slot 0 has an owner
+unlisted : (c x l : Bool) → l ≡ false → allOf (c ∷ l ∷ x ∷ []) ≡ false
+unlisted true x l e = rw e
+unlisted false x l e = refl
+
+older : (c l x : Bool) → x ≡ false → allOf (c ∷ l ∷ x ∷ []) ≡ false
+older true true x e = e
+older true false x e = refl
+older false l x e = refl
+
+skip : (p : ℕ → ℕ → Bool) (x : ℕ) → ((i : ℕ) → p i x ≡ false) → (k i : ℕ) → firstFrom p i (replicate k x) ≡ Nothing
+unfolding firstFrom
+skip p x f zero i = refl
+skip p x f (suc k) i = rw (f i) (skip p x f k (suc i))
+
+none-passes : (p : ℕ → ℕ → Bool) (a x k : ℕ) → p 0 a ≡ false → ((i : ℕ) → p i x ≡ false) → firstAt p (a ∷ replicate k x) ≡ Nothing
+unfolding firstFrom
+none-passes p a x k e f = rw e (skip p x f k 1)
+
+nothing-newer : (m : Node) (bitmap : List ℕ) (config : ℕ) → listed m unowned ≡ false → ltb config (recordAt m 0 .config) ≡ false → firstAt (newer m bitmap config) slots ≡ Nothing
+unfolding slots
+nothing-newer m bitmap config l o =
+    none-passes (newer m bitmap config) 0 unowned 16383 (older (claimed bitmap 0) (listed m 0) (ltb config (recordAt m 0 .config)) o)
+    (λ i. unlisted (claimed bitmap i) (ltb config (recordAt m unowned .config)) (listed m unowned) l)
+
+-- then the checks decide
+settles : (m : Node) (bitmap : List ℕ) (candidate epoch config : ℕ) (x : Found) → firstAt (newer m bitmap config) slots ≡ x
+    → requested m slots bitmap candidate epoch config ≡ checked (answered m) (requestChecks m (roleAt m candidate) epoch) (settled m (followed (roleAt m candidate)) epoch x)
+unfolding requested
+settles m bitmap candidate epoch config x e = ap (λ (f : Found). checked (answered m) (requestChecks m (roleAt m candidate) epoch) (settled m (followed (roleAt m candidate)) epoch f)) e
+
+-- ---- the requests
+
+abbrev q1 : Asked
+q1 = ask 3 4 2 1000
+
+abbrev q2 : Asked
+q2 = ask 3 5 2 1000
+
+abbrev q4 : Asked
+q4 = ask 4 6 2 2999
+
+abbrev q5 : Asked
+q5 = ask 4 6 2 3000
+
+abbrev q6 : Asked
+q6 = ask 3 5 1 1000
+
+-- each line decodes to its request
+abbrev questions : List Asked
+questions = q1 ∷ q2 ∷ q4 ∷ q5 ∷ q6 ∷ []
+
+all-decode : map (λ (q : Asked). frameOf (lineOf q)) questions ≡ map requestOf questions
+unfolding character hex bytesOf encode claimOfSlot0 lineOf isDigit digit allDigits byteAt numberAt frameOf
+all-decode = refl
+
+decodes : (k : ℕ) → getD (map (λ (q : Asked). frameOf (lineOf q)) questions) k NotAFrame ≡ getD (map requestOf questions) k NotAFrame
+decodes k = ap (λ (l : List Frame). getD l k NotAFrame) all-decode
+
+-- ---- the voter after each
+
+abbrev n1 : Node
+n1 = arrivedAt q1 voter
+
+abbrev n2 : Node
+n2 = granted 0 5 (arrivedAt q2 n1)
+
+abbrev n3 : Node
+n3 = arrivedAt q2 n2
+
+abbrev n4 : Node
+n4 = arrivedAt q4 n3
+
+abbrev n5 : Node
+n5 = granted 0 6 (arrivedAt q5 n4)
+
+-- and none is turned away
+abbrev looks : Node → Asked → Check
+looks n q = refusal n slotCount reportCount (requestOf q)
+
+abbrev checks : List Check
+checks = looks voter q1 ∷ looks n1 q2 ∷ looks n2 q2 ∷ looks n3 q4 ∷ looks n4 q5 ∷ looks voter q6 ∷ []
+
+all-pass : checks ≡ replicate 6 Passed
+unfolding every withRecord withClock withCurrent withVoted freshNode casesNode arraysWhole boundsKept before idsAscend recordsSound electionSound marksAscend marksSound ownClear sound isUnlisted followsItself namesThisNode isBeyond frameRefusals refusals granted voter
+all-pass = refl
+
+passes : (k : ℕ) → getD checks k Passed ≡ getD (replicate 6 Passed) k Passed
+passes k = ap (λ (l : List Check). getD l k Passed) all-pass
+
+vote1 : requested n1 slots (bitmapOf (lineOf q1)) 3 4 2 ≡ answered n1 StaleEpoch
+unfolding withRecord withClock withCurrent withVoted freshNode casesNode granted voter requested
+vote1 = refl
+
+vote2 : requested (arrivedAt q2 n1) slots (bitmapOf (lineOf q2)) 3 5 2 ≡ answered n2 Granted
+unfolding withRecord withClock withCurrent withVoted freshNode casesNode granted voter
+vote2 = settles (arrivedAt q2 n1) (bitmapOf (lineOf q2)) 3 5 2 Nothing (nothing-newer (arrivedAt q2 n1) (bitmapOf (lineOf q2)) 2 refl refl)
+
+vote3 : requested n3 slots (bitmapOf (lineOf q2)) 3 5 2 ≡ answered n3 AlreadyVoted
+unfolding withRecord withClock withCurrent withVoted freshNode casesNode granted voter requested
+vote3 = refl
+
+vote4 : requested n4 slots (bitmapOf (lineOf q4)) 4 6 2 ≡ answered n4 VotedLately
+unfolding withRecord withClock withCurrent withVoted freshNode casesNode granted voter requested
+vote4 = refl
+
+vote5 : requested (arrivedAt q5 n4) slots (bitmapOf (lineOf q5)) 4 6 2 ≡ answered n5 Granted
+unfolding withRecord withClock withCurrent withVoted freshNode casesNode granted voter
+vote5 = settles (arrivedAt q5 n4) (bitmapOf (lineOf q5)) 4 6 2 Nothing (nothing-newer (arrivedAt q5 n4) (bitmapOf (lineOf q5)) 2 refl refl)
+
+slot-0 : firstAt (newer (arrivedAt q6 voter) (bitmapOf (lineOf q6)) 1) slots ≡ At 0
+unfolding withRecord withClock withCurrent withVoted freshNode casesNode voter slots firstFrom bitmapOf bytesAt character hex bytesOf encode claimOfSlot0 lineOf isDigit digit byteAt
+slot-0 = refl
+
+vote6 : requested (arrivedAt q6 voter) slots (bitmapOf (lineOf q6)) 3 5 1 ≡ answered (arrivedAt q6 voter) (Outdated 0)
+unfolding withRecord withClock withCurrent withVoted freshNode casesNode granted voter
+vote6 = settles (arrivedAt q6 voter) (bitmapOf (lineOf q6)) 3 5 1 (At 0) slot-0
+
+-- ---- the rows, one after the other
+
+row : (n : Node) (r : VoteRow) (rs : List VoteRow) (s : Stepped) → onFrame n slots reports (lineOf (r .asked)) ≡ s → voteAnswered (r .asked) s ≡ r → votesAnswered (s .outcome .node) rs ≡ rs → votesAnswered n (r ∷ rs) ≡ r ∷ rs
+unfolding votesAnswered
+row n r rs s e f g = rw (e, f, g)
+
+done : (n : Node) → votesAnswered n [] ≡ []
+unfolding votesAnswered
+done n = refl
+
+votes-cases : votesAnswered voter voteRows ≡ voteRows
+unfolding withRecord withClock withCurrent withVoted freshNode casesNode granted voter
+votes-cases =
+    row voter _ _ _ (asked-step voter q1 _ (decodes 0) (passes 0) vote1) refl
+    (row n1 _ _ _ (asked-step n1 q2 _ (decodes 1) (passes 1) vote2) refl
+    (row n2 _ _ _ (asked-step n2 q2 _ (decodes 1) (passes 2) vote3) refl
+    (row n3 _ _ _ (asked-step n3 q4 _ (decodes 2) (passes 3) vote4) refl
+    (row n4 _ _ _ (asked-step n4 q5 _ (decodes 3) (passes 4) vote5) refl (done n5)))))
+
+outdated-cases : votesAnswered voter outdatedRows ≡ outdatedRows
+unfolding withRecord withClock withCurrent withVoted freshNode casesNode voter
+outdated-cases = row voter _ _ _ (asked-step voter q6 _ (decodes 4) (passes 5) vote6) refl (done _)
+
+key-rows : (ks : List KeyRow) (rest : List Row) → map table.answered (map key ks ++ rest) ≡ map key (map keyAnswered ks) ++ map table.answered rest
+key-rows [] rest = refl
+key-rows (k ∷ ks) rest = ap (λ (rs : List Row). key (keyAnswered k) ∷ rs) (key-rows ks rest)
+
+pub all-cases : AllCases
+all-cases =
+    key-rows keyRows (votes voteRows ∷ votes outdatedRows ∷ [])
+    ∙ ap (λ (ks : List KeyRow). map key ks ++ votes (votesAnswered voter voteRows) ∷ votes (votesAnswered voter outdatedRows) ∷ []) key-cases
+    ∙ ap (λ (rs : List VoteRow). map key keyRows ++ votes rs ∷ votes (votesAnswered voter outdatedRows) ∷ []) votes-cases
+    ∙ ap (λ (rs : List VoteRow). map key keyRows ++ votes voteRows ∷ votes rs ∷ []) outdated-cases

@@ -1,0 +1,5 @@
+pub mod Refused
+pub mod Sounds
+pub mod Exactly
+pub mod Changes
+pub mod Cases

@@ -1,0 +1,104 @@
+-- Document 01, "Node for the cases": every case that is marked with a star, keys and votes, as rows of one table. The rows of
+-- votes go through the definition of the whole `frame`, from the line of 4,152 digits to the answer.
+use Prim.Native.Nat.{ℕ, _+_}
+use mathlib.Core.Path.{_≡_}
+use mathlib.Core.List.{List, [], _∷_, _++_, map}
+use lib.ListN.{replicate}
+use Rattle.tables.specs.Sizes.{reportCount, unowned}
+use Rattle.answers.specs.Answers.{number}
+use Rattle.answers.specs.declared.Answer.{Answer}
+use Rattle.answers.specs.declared.Answer.the-variants.{Granted, StaleEpoch, AlreadyVoted, VotedLately, Outdated}
+use Rattle.state.specs.Changes.{withConfig, withFlag, withCurrent, withVoted, onRecord}
+use Rattle.state.specs.Outcomes.{Stepped}
+use Rattle.state.specs.declared.Node.{Node}
+use Rattle.state.specs.declared.Flag.the-variants.{Fail}
+use Rattle.cases.specs.Cases.{casesNode}
+use Rattle.slots.specs.Cases.{KeyRow, keyAnswered, keyRows}
+use Rattle.frames.specs.Lines.{encode}
+use Rattle.frames.specs.declared.Frame.the-variants.{Request}
+use Rattle.node.specs.Step.{onFrame}
+
+-- ---- the node for the cases
+
+-- the voter: at currentEpoch 5 and lastVoteEpoch 1; node 0 is FAIL, at configEpoch 2
+unfoldable pub voter : Node
+voter = withCurrent 5 (withVoted 1 (onRecord 0 (λ r. withFlag (Fail 0) (withConfig 2 r)) casesNode))
+
+-- node 0 owns slot 0
+unfoldable pub slots : List ℕ
+slots = 0 ∷ replicate 16383 unowned
+
+unfoldable pub reports : List ℕ
+reports = replicate reportCount 0
+
+-- ---- a vote request's line, which claims slot 0
+
+-- the first bit of the bitmap and no other
+unfoldable pub claimOfSlot0 : List ℕ
+claimOfSlot0 = 1 ∷ replicate 2047 0
+
+pub record Asked : Type 0 where
+  pub candidate : ℕ
+  pub epoch : ℕ
+  pub config : ℕ
+  pub time : ℕ
+
+unfoldable pub lineOf : Asked → List ℕ
+lineOf q = encode (Request (q .candidate) (q .epoch) (q .config) (q .time)) claimOfSlot0
+
+-- ---- the table
+
+-- a request, the answer with its number, and currentEpoch after it
+pub record VoteRow : Type 0 where
+  pub asked : Asked
+  pub answer : Answer
+  pub number : ℕ
+  pub current : ℕ
+
+-- a key; or requests to the voter, one after the other
+pub data Row : Type 0 where
+  key : KeyRow → Row
+  votes : List VoteRow → Row
+
+abbrev pub ask : ℕ → ℕ → ℕ → ℕ → Asked
+ask candidate epoch config time = record { candidate = candidate; epoch = epoch; config = config; time = time }
+
+abbrev pub gives : Asked → Answer → ℕ → ℕ → VoteRow
+gives q a n e = record { asked = q; answer = a; number = n; current = e }
+
+-- candidate 3 with configEpoch 2 at epoch 4: 12; at epoch 5: 10; the same again: 13; then candidate 4 at epoch 6 after
+-- 1,999 ms: 16, currentEpoch 6; after 2,000 ms: 10
+abbrev pub voteRows : List VoteRow
+voteRows =
+    gives (ask 3 4 2 1000) StaleEpoch 12 5
+    ∷ gives (ask 3 5 2 1000) Granted 10 5
+    ∷ gives (ask 3 5 2 1000) AlreadyVoted 13 5
+    ∷ gives (ask 4 6 2 2999) VotedLately 16 6
+    ∷ gives (ask 4 6 2 3000) Granted 10 6
+    ∷ []
+
+-- the first epoch 5 request with configEpoch 1 instead: 17, slot 0
+abbrev pub outdatedRows : List VoteRow
+outdatedRows = gives (ask 3 5 1 1000) (Outdated 0) 17 5 ∷ []
+
+abbrev pub rows : List Row
+rows = map key keyRows ++ votes voteRows ∷ votes outdatedRows ∷ []
+
+-- ---- the same, by the definitions
+
+abbrev pub voteAnswered : Asked → Stepped → VoteRow
+voteAnswered q s = record { asked = q; answer = s .outcome .answer; number = number (s .outcome .answer); current = s .outcome .node .current }
+
+unfoldable pub votesAnswered : Node → List VoteRow → List VoteRow
+votesAnswered n [] = []
+votesAnswered n (r ∷ rs) =
+    let s = onFrame n slots reports (lineOf (r .asked)) in
+    voteAnswered (r .asked) s ∷ votesAnswered (s .outcome .node) rs
+
+abbrev pub answered : Row → Row
+answered (key r) = key (keyAnswered r)
+answered (votes rs) = votes (votesAnswered voter rs)
+
+-- what the definitions make of each row is the row
+abbrev pub AllCases : Type 0
+AllCases = map answered rows ≡ rows

@@ -1,0 +1,66 @@
+-- Demand 2 on lines: when a line is answered 10, and when a slot passes.
+use mathlib.Core.Path.{_≡_}
+use mathlib.Core.Bool.{true, false}
+use mathlib.Core.List.{List}
+use Prim.Native.Nat.{ℕ, _≤_, _<_}
+use lib.ListN.{length, getD}
+use Rattle.tables.specs.Sizes.{slotCount}
+use Rattle.tables.specs.Sets.{claimed}
+use Rattle.answers.specs.Answers.{number}
+use Rattle.state.specs.Node.{recordAt}
+use Rattle.state.specs.Changes.{arrived}
+use Rattle.state.specs.declared.Node.{Node}
+use Rattle.state.specs.declared.Role.the-variants.{Master}
+use Rattle.frames.specs.Frames.{frameOf, bitmapOf}
+use Rattle.frames.specs.declared.Frame.the-variants.{Heartbeat, Request}
+use Rattle.refusals.specs.Refusals.{refusal}
+use Rattle.answers.specs.declared.Check.the-variants.{Passed}
+use Rattle.votes.specs.Grants.{Grantable}
+use Rattle.node.specs.Step.{onFrame}
+
+module _ (n : Node) (slots reports line : List ℕ) where
+  abbrev pub answerTo : ℕ
+  answerTo = number (onFrame n slots reports line .outcome .answer)
+
+  -- a vote request that none of 1 to 8 turns away, and whose conditions hold with clock and currentEpoch risen
+  pub record GrantableLine : Type 0 where
+    pub candidate : ℕ
+    pub current : ℕ
+    pub config : ℕ
+    pub time : ℕ
+    pub request : frameOf line ≡ Request candidate current config time
+    pub passes : refusal n (length slots) (length reports) (frameOf line) ≡ Passed
+    pub conditions : Grantable (arrived time current n) slots (bitmapOf line) candidate current config
+
+  -- such a line is answered 10, and no other
+  pub record GrantedExactly : Type 0 where
+    pub if : GrantableLine → answerTo ≡ 10
+    pub only-if : answerTo ≡ 10 → GrantableLine
+
+  -- the frame claims slot s with a configEpoch strictly above the one known of its owner
+  pub record Beats (config s : ℕ) : Type 0 where
+    pub claims : claimed (bitmapOf line) s ≡ true
+    pub above : recordAt n (getD slots s 0) .config < config
+
+  -- slot s, which is another's in the roster, is the sender's afterwards exactly when the frame beats its owner, and its
+  -- owner's otherwise
+  pub record SlotPasses (sender config s : ℕ) : Type 0 where
+    pub if : Beats config s → getD (onFrame n slots reports line .slots) s 0 ≡ sender
+    pub only-if : getD (onFrame n slots reports line .slots) s 0 ≡ sender → Beats config s
+    pub otherwise : (Beats config s → ⊥) → getD (onFrame n slots reports line .slots) s 0 ≡ getD slots s 0
+
+  -- for a master's heartbeat that is not turned away
+  abbrev pub SlotPassesExactly : Type 0
+  SlotPassesExactly =
+      (sender current config time : ℕ) → frameOf line ≡ Heartbeat sender Master current config time → answerTo ≡ 0
+      → (s : ℕ) → s < slotCount → getD slots s 0 < n .size → (getD slots s 0 ≡ sender → ⊥) → SlotPasses sender config s
+
+  -- an entry that is no number of the roster goes to the sender exactly when the frame claims it
+  pub record UnownedGoes (sender s : ℕ) : Type 0 where
+    pub if : claimed (bitmapOf line) s ≡ true → getD (onFrame n slots reports line .slots) s 0 ≡ sender
+    pub otherwise : claimed (bitmapOf line) s ≡ false → getD (onFrame n slots reports line .slots) s 0 ≡ getD slots s 0
+
+  abbrev pub UnownedGoesExactly : Type 0
+  UnownedGoesExactly =
+      (sender current config time : ℕ) → frameOf line ≡ Heartbeat sender Master current config time → answerTo ≡ 0
+      → (s : ℕ) → s < slotCount → n .size ≤ getD slots s 0 → UnownedGoes sender s

@@ -1,0 +1,5 @@
+pub mod Refused
+pub mod Changes
+pub mod Exactly
+pub mod Sounds
+pub mod Cases

@@ -1,0 +1,215 @@
+-- The computed examples of demand 3. A vote request is computed up to the look at the slot table, which a law answers; all
+-- else is computed whole.
+use mathlib.Core.Path.{_≡_, refl, sym, ap, _∙_, subst}
+use mathlib.Core.Logic.{inl, inr}
+use mathlib.Core.Bool.{Bool, true, false, cond}
+use mathlib.Core.List.{List, [], _∷_, map}
+use Prim.Native.Nat.{ℕ, zero, suc}
+use native.Mathlib.Omega.{arith}
+use native.Mathlib.Decide.{ℕ-discrete}
+use lib.Dec.{eqb, ltb}
+use lib.Count.{ones}
+use lib.ListN.{replicate}
+use borrow.Author.Tests.{ne-eqb}
+use Rattle.tables.specs.Sizes.{unowned}
+use Rattle.tables.specs.Checks.{allOf}
+use Rattle.tables.specs.Below.{every}
+use Rattle.tables.specs.Lists.{mapFrom, firstFrom, firstAt}
+use Rattle.tables.specs.Sets.{claimed, wordOf, wordsFrom}
+use Rattle.tables.specs.declared.Found.{Found}
+use Rattle.tables.specs.declared.Found.the-variants.{Nothing, At}
+use Rattle.answers.specs.Answers.{number}
+use Rattle.state.specs.Node.{recordAt, listed}
+use Rattle.state.specs.Changes.{withRecord, withCurrent, withVoted, withClock, withElection, arrived}
+use Rattle.state.specs.Fresh.{freshNode}
+use Rattle.state.specs.declared.Node.{Node}
+use Rattle.soundness.specs.Sound.{arraysWhole, boundsKept, before, idsAscend, recordsSound, electionSound, marksAscend, marksSound, ownClear, sound}
+use Rattle.frames.specs.Hex.{isDigit, digit, allDigits, byteAt, numberAt}
+use Rattle.frames.specs.Frames.{frameOf, bitmapOf}
+use Rattle.frames.specs.Lines.{character, hex, bytesOf, encode}
+use Rattle.frames.specs.declared.Frame.the-variants.{Request}
+use Rattle.refusals.specs.Refusals.{isUnlisted, followsItself, namesThisNode, isBeyond, frameRefusals, refusals}
+use Rattle.failure.specs.Failure.{failed}
+use Rattle.votes.specs.Votes.{requested, newer, settled}
+use Rattle.votes.specs.Votes as votes
+use Rattle.elections.specs.Elections as elections
+use Rattle.elections.specs.Elections.{opens, promoted, acked}
+use Rattle.ownership.specs.Heartbeat.{told, heartbeat}
+use Rattle.node.specs.Step.{onKind, onFrame}
+use Rattle.safety.specs.Deeds.{Deed, granted, counted, won, opened, told as tells, other, Did, Has, Counted, Won, votingSet}
+use Rattle.safety.specs.Calls.{frameDeed}
+use Rattle.safety.specs.Demand3.{masterBy, SameSet, Made, stateOf, AllGranted}
+use Rattle.safety.specs.Examples.{roster, timeouts, past, failLine, requestLine, gets, winning, differing, differing3, differing4, madeUp, beforeWin, ANodeWins, SetsThatDiffer, AcksMadeUp, Examples}
+
+-- ---- a vote request: no owner in the lent table has a configEpoch above 0, whatever the bitmap claims
+
+unlisted-owner : (claims epoch : Bool) → allOf (claims ∷ false ∷ epoch ∷ []) ≡ false
+unlisted-owner true epoch = refl
+unlisted-owner false epoch = refl
+
+no-newer-owner : (claims known : Bool) → allOf (claims ∷ known ∷ false ∷ []) ≡ false
+no-newer-owner true true = refl
+no-newer-owner true false = refl
+no-newer-owner false known = refl
+
+none-owned : (n : Node) (bitmap : List ℕ) (i k : ℕ) → listed n unowned ≡ false → firstFrom (newer n bitmap 0) i (replicate k unowned) ≡ Nothing
+unfolding firstFrom
+none-owned n bitmap i zero h = refl
+none-owned n bitmap i (suc k) h = rw (h, unlisted-owner (claimed bitmap i) (ltb 0 (recordAt n unowned .config))) (none-owned n bitmap (suc i) k h)
+
+none-newer : (n : Node) (bitmap : List ℕ) (k : ℕ) → listed n unowned ≡ false → ltb 0 (recordAt n 0 .config) ≡ false → firstAt (newer n bitmap 0) (0 ∷ replicate k unowned) ≡ Nothing
+unfolding firstFrom
+none-newer n bitmap k h z = rw (z, no-newer-owner (claimed bitmap 0) (listed n 0)) (none-owned n bitmap 1 k h)
+
+-- node v, when it has heard from s that node 0 is FAIL
+abbrev informed : ℕ → ℕ → Node
+informed v s = stateOf roster timeouts (gets v (failLine s) ∷ []) v
+
+-- what it did once the request of c was answered, by what the look at the table finds
+abbrev voter : ℕ → ℕ → ℕ → Found → List Deed
+voter v s c x = frameDeed (Request c 1 0 0) (number (settled (arrived 0 1 (informed v s)) 0 1 x .answer)) ∷ other ∷ []
+
+-- ---- what each node did
+
+record Pasts : Type 0 where
+  winner : past winning 3 ≡ won 2 1 ∷ beforeWin
+  winner-voter1 : past winning 1 ≡ granted 1 3 ∷ other ∷ []
+  winner-voter2 : past winning 2 ≡ granted 1 3 ∷ other ∷ []
+  first : past differing 3 ≡ won 1 1 ∷ differing3
+  second : past differing 4 ≡ won 2 1 ∷ differing4
+  first-voter : past differing 1 ≡ granted 1 3 ∷ other ∷ []
+  second-voter : past differing 2 ≡ granted 1 4 ∷ other ∷ []
+  loser : past madeUp 4 ≡ won 2 1 ∷ beforeWin
+
+pasts : Pasts
+unfolding every mapFrom wordOf wordsFrom withRecord withCurrent withVoted withClock withElection freshNode arraysWhole boundsKept before idsAscend recordsSound electionSound marksAscend marksSound ownClear sound isDigit digit allDigits byteAt numberAt frameOf isUnlisted followsItself namesThisNode isBeyond frameRefusals refusals failed requested votes.granted elections.opening opens promoted acked told heartbeat onKind onFrame character hex bytesOf encode ones winning differing madeUp firstFrom
+pasts = record {
+  winner = refl;
+  winner-voter1 = ap (voter 1 2 3) (none-newer (arrived 0 1 (informed 1 2)) (bitmapOf (requestLine 3)) 16383 refl refl);
+  winner-voter2 = ap (voter 2 1 3) (none-newer (arrived 0 1 (informed 2 1)) (bitmapOf (requestLine 3)) 16383 refl refl);
+  first = refl;
+  second = refl;
+  first-voter = ap (voter 1 2 3) (none-newer (arrived 0 1 (informed 1 2)) (bitmapOf (requestLine 3)) 16383 refl refl);
+  second-voter = ap (voter 2 1 4) (none-newer (arrived 0 1 (informed 2 1)) (bitmapOf (requestLine 4)) 16383 refl refl);
+  loser = refl;
+}
+
+-- in the last list the others do what they did in the first
+record Still : Type 0 where
+  winner : past madeUp 3 ≡ past winning 3
+  voter1 : past madeUp 1 ≡ past winning 1
+  voter2 : past madeUp 2 ≡ past winning 2
+
+still : Still
+unfolding madeUp
+still = record { winner = refl; voter1 = refl; voter2 = refl }
+
+-- ---- whose acks were counted
+
+-- the voter of an ack that was answered 0 or 30, plus one; else 0
+abbrev ackOf : Deed → ℕ
+ackOf (granted e c) = 0
+ackOf (counted v e) = suc v
+ackOf (won v e) = suc v
+ackOf opened = 0
+ackOf (tells s m) = 0
+ackOf other = 0
+
+did-ack : (d : Deed) (h : List Deed) → Did d h → Has (ackOf d) (map ackOf h)
+did-ack d [] x = absurd x
+did-ack d (x ∷ h) (inl p) = inl (ap ackOf p)
+did-ack d (x ∷ h) (inr q) = inr (did-ack d h q)
+
+counted-ack : (v e : ℕ) (h : List Deed) → Counted v e h → Has (suc v) (map ackOf h)
+counted-ack v e h (inl c) = did-ack (counted v e) h c
+counted-ack v e h (inr w) = did-ack (won v e) h w
+
+no-ack : (v k : ℕ) → Has (suc v) (replicate k 0) → ⊥
+no-ack v zero h = h
+no-ack v (suc k) (inl p) = omega (arith, p)
+no-ack v (suc k) (inr h) = no-ack v k h
+
+-- the one voter whose ack was counted granted what it acked
+one-ack : (ms : List Made) (a u k : ℕ) → map ackOf (past ms a) ≡ suc u ∷ replicate k 0 → Did (granted 1 a) (past ms u) → AllGranted roster timeouts ms a 1
+one-ack ms a u k e g v c = go (subst (Has (suc v)) e (counted-ack v 1 (past ms a) c))
+  where
+    go : Has (suc v) (suc u ∷ replicate k 0) → Did (granted 1 a) (past ms v)
+    go (inl p) = subst (λ (x : ℕ). Did (granted 1 a) (past ms x)) (omega (arith, p)) g
+    go (inr h) = absurd (no-ack v k h)
+
+-- and so did each of the two
+two-acks : (ms : List Made) (a u w k : ℕ) → map ackOf (past ms a) ≡ suc u ∷ suc w ∷ replicate k 0 → Did (granted 1 a) (past ms u) → Did (granted 1 a) (past ms w) → AllGranted roster timeouts ms a 1
+two-acks ms a u w k e g g′ v c = go (subst (Has (suc v)) e (counted-ack v 1 (past ms a) c))
+  where
+    go : Has (suc v) (suc u ∷ suc w ∷ replicate k 0) → Did (granted 1 a) (past ms v)
+    go (inl p) = subst (λ (x : ℕ). Did (granted 1 a) (past ms x)) (omega (arith, p)) g
+    go (inr (inl p)) = subst (λ (x : ℕ). Did (granted 1 a) (past ms x)) (omega (arith, p)) g′
+    go (inr (inr h)) = absurd (no-ack v k h)
+
+-- the last thing that was done was done
+did-last : (d : Deed) (h h′ : List Deed) → h ≡ d ∷ h′ → Did d h
+did-last d h h′ e = subst (Did d) (sym e) (inl refl)
+
+won-last : (e v : ℕ) (h before : List Deed) → h ≡ won v e ∷ before → Won e h before
+won-last e v h before p = subst (λ (x : List Deed). Won e x before) (sym p) (inl (v, refl, refl))
+
+-- ---- the examples
+
+a-node-wins : ANodeWins
+a-node-wins = record { candidate = pasts .winner; voter1 = pasts .winner-voter1; voter2 = pasts .winner-voter2 }
+
+sets-that-differ : SetsThatDiffer
+sets-that-differ = record {
+  both = record { first = won-last 1 1 _ _ (pasts .first); second = won-last 1 2 _ _ (pasts .second) };
+  granted3 = one-ack differing 3 1 4 (ap (map ackOf) (pasts .first)) (did-last _ _ _ (pasts .first-voter));
+  granted4 = one-ack differing 4 2 4 (ap (map ackOf) (pasts .second)) (did-last _ _ _ (pasts .second-voter));
+  in3 = refl;
+  not-in4 = refl;
+}
+
+-- neither 3 nor 4 is a master
+same-set : SameSet roster 3 beforeWin 4 beforeWin
+same-set k = go (ℕ-discrete k 3) (ℕ-discrete k 4)
+  where
+    P : ℕ → Type 0
+    P x = votingSet (masterBy roster) 3 beforeWin x ≡ votingSet (masterBy roster) 4 beforeWin x
+
+    both-others : (c d m : Bool) → c ≡ false → d ≡ false → cond c false m ≡ cond d false m
+    both-others c d m p q = rw (p, q)
+
+    go : Dec (k ≡ 3) → Dec (k ≡ 4) → P k
+    go (yes e) f = subst P (sym e) refl
+    go (no e) (yes f) = subst P (sym f) refl
+    go (no e) (no f) = both-others (eqb k 3) (eqb k 4) (masterBy roster k) (ne-eqb k 3 e) (ne-eqb k 4 f)
+
+-- to whom a grant went; else 0
+abbrev grantedTo : Deed → ℕ
+grantedTo (granted e c) = c
+grantedTo (counted v e) = 0
+grantedTo (won v e) = 0
+grantedTo opened = 0
+grantedTo (tells s m) = 0
+grantedTo other = 0
+
+to-another : Did (granted 1 4) (granted 1 3 ∷ other ∷ []) → ⊥
+to-another (inl p) = let z : _≡_ {A = ℕ} 3 4 = ap grantedTo p in omega (arith, z)
+to-another (inr (inl p)) = let z : _≡_ {A = ℕ} 0 4 = ap grantedTo p in omega (arith, z)
+to-another (inr (inr p)) = p
+
+acks-made-up : AcksMadeUp
+acks-made-up = record {
+  both = record { first = won-last 1 2 _ _ winner; second = won-last 1 2 _ _ (pasts .loser) };
+  sets = same-set;
+  granted3 = two-acks madeUp 3 2 1 2 (ap (map ackOf) winner) (did-last _ _ _ (still .voter2 ∙ pasts .winner-voter2)) (did-last _ _ _ voter1);
+  counted4 = inl (subst (Did (counted 1 1)) (sym (pasts .loser)) (inr (inl refl)));
+  ungranted = λ d. to-another (subst (Did (granted 1 4)) voter1 d);
+}
+  where
+    winner : past madeUp 3 ≡ won 2 1 ∷ beforeWin
+    winner = still .winner ∙ pasts .winner
+
+    voter1 : past madeUp 1 ≡ granted 1 3 ∷ other ∷ []
+    voter1 = still .voter1 ∙ pasts .winner-voter1
+
+pub examples : Examples
+examples = record { wins = a-node-wins; differ = sets-that-differ; made-up = acks-made-up }

@@ -1,0 +1,4 @@
+pub mod Life
+pub mod Steps
+pub mod Safe
+pub mod Examples

@@ -1,0 +1,147 @@
+-- Computed lists for demand 3: one in which a node wins, so that the statement is not empty; and for each proviso one that
+-- breaks it alone, in which two nodes win the same epoch, so that both are needed. The roster is that of the cases of
+-- document 01; every time in the lists is 0, and the epoch that is won is 1.
+use mathlib.Core.Path.{_≡_}
+use mathlib.Core.Bool.{true, false}
+use mathlib.Core.List.{List, [], _∷_}
+use Prim.Native.Nat.{ℕ}
+use lib.ListN.{replicate}
+use Rattle.tables.specs.Sizes.{reportCount, unowned}
+use Rattle.state.specs.declared.Role.the-variants.{Replica}
+use Rattle.frames.specs.Lines.{encode}
+use Rattle.frames.specs.declared.Frame.the-variants.{Heartbeat, Fail, Request, Ack}
+use Rattle.cases.specs.Cases.{ids, roles}
+use Rattle.safety.specs.Deeds.{Deed, granted, counted, won, opened, told, other, Did, Counted, Won, votingSet}
+use Rattle.safety.specs.Calls.{frame, opening}
+use Rattle.safety.specs.Demand3.{Roster, masterBy, SameSet, Made, history, AllGranted}
+
+-- ---- the roster
+
+-- nodes 0, 1 and 2 are masters, 3 and 4 replicas of 0
+abbrev pub roster : Roster
+roster = record { ids = ids; roles = roles; size = 5 }
+
+abbrev pub timeouts : ℕ → ℕ
+timeouts v = 1000
+
+-- what a node did
+abbrev pub past : List Made → ℕ → List Deed
+past ms v = history roster timeouts ms v
+
+-- ---- lines: configEpochs and times are 0, and bitmaps claim nothing
+
+abbrev pub claimless : List ℕ
+claimless = replicate 2048 0
+
+-- the sender is a replica of node 3 now
+abbrev pub replicaLine : ℕ → List ℕ
+replicaLine sender = encode (Heartbeat sender (Replica 3) 0 0 0) claimless
+
+-- node 0 is FAIL
+abbrev pub failLine : ℕ → List ℕ
+failLine sender = encode (Fail sender 0 0) []
+
+-- a vote for epoch 1, asked for and given
+abbrev pub requestLine : ℕ → List ℕ
+requestLine candidate = encode (Request candidate 1 0 0) claimless
+
+abbrev pub ackLine : ℕ → ℕ → List ℕ
+ackLine voter candidate = encode (Ack voter candidate 1 0) []
+
+-- ---- the calls, with the tables lent
+
+-- node 0 owns slot 0, and nobody another one
+abbrev pub slots : List ℕ
+slots = 0 ∷ replicate 16383 unowned
+
+abbrev pub reports : List ℕ
+reports = replicate reportCount 0
+
+abbrev pub gets : ℕ → List ℕ → Made
+gets node line = record { on = node; call = frame slots reports line }
+
+abbrev pub opens : ℕ → Made
+opens node = record { on = node; call = opening slots 0 }
+
+-- ---- a node wins
+
+-- Node 3 hears that its master is FAIL and opens. Nodes 1 and 2 hear it too, and each grants its request. It counts one ack
+-- and wins by the other. The latest comes first.
+unfoldable pub winning : List Made
+winning =
+    gets 3 (ackLine 2 3)
+    ∷ gets 3 (ackLine 1 3)
+    ∷ gets 2 (requestLine 3)
+    ∷ gets 2 (failLine 1)
+    ∷ gets 1 (requestLine 3)
+    ∷ gets 1 (failLine 2)
+    ∷ opens 3
+    ∷ gets 3 (failLine 1)
+    ∷ []
+
+pub record ANodeWins : Type 0 where
+  pub candidate : past winning 3 ≡ won 2 1 ∷ counted 1 1 ∷ opened ∷ other ∷ []
+  pub voter1 : past winning 1 ≡ granted 1 3 ∷ other ∷ []
+  pub voter2 : past winning 2 ≡ granted 1 3 ∷ other ∷ []
+
+-- ---- two nodes win the same epoch
+
+-- nodes 3 and 4 win epoch 1, and had done that before their wins
+pub record BothWin (ms : List Made) (before3 before4 : List Deed) : Type 0 where
+  pub first : Won 1 (past ms 3) before3
+  pub second : Won 1 (past ms 4) before4
+
+-- Sets that differ. Node 3 is told that nodes 0 and 2 are replicas, so that its set is node 1 alone; node 4 is told it of 0 and
+-- 1, and its set is node 2 alone. Each voter grants what it acks.
+unfoldable pub differing : List Made
+differing =
+    gets 4 (ackLine 2 4)
+    ∷ gets 3 (ackLine 1 3)
+    ∷ gets 2 (requestLine 4)
+    ∷ gets 2 (failLine 1)
+    ∷ gets 1 (requestLine 3)
+    ∷ gets 1 (failLine 2)
+    ∷ opens 4
+    ∷ gets 4 (failLine 1)
+    ∷ gets 4 (replicaLine 1)
+    ∷ gets 4 (replicaLine 0)
+    ∷ opens 3
+    ∷ gets 3 (failLine 1)
+    ∷ gets 3 (replicaLine 2)
+    ∷ gets 3 (replicaLine 0)
+    ∷ []
+
+abbrev pub differing3 : List Deed
+differing3 = opened ∷ other ∷ told 2 false ∷ told 0 false ∷ []
+
+abbrev pub differing4 : List Deed
+differing4 = opened ∷ other ∷ told 1 false ∷ told 0 false ∷ []
+
+pub record SetsThatDiffer : Type 0 where
+  pub both : BothWin differing differing3 differing4
+  pub granted3 : AllGranted roster timeouts differing 3 1
+  pub granted4 : AllGranted roster timeouts differing 4 1
+  -- the first proviso is broken: node 1 is in the one set, and not in the other
+  pub in3 : votingSet (masterBy roster) 3 differing3 1 ≡ true
+  pub not-in4 : votingSet (masterBy roster) 4 differing4 1 ≡ false
+
+-- Acks that nobody granted. Node 3 wins as above; then node 4 opens, with the same set, and gets acks of voters that granted
+-- the epoch to node 3.
+unfoldable pub madeUp : List Made
+madeUp = gets 4 (ackLine 2 4) ∷ gets 4 (ackLine 1 4) ∷ opens 4 ∷ gets 4 (failLine 1) ∷ winning
+
+abbrev pub beforeWin : List Deed
+beforeWin = counted 1 1 ∷ opened ∷ other ∷ []
+
+pub record AcksMadeUp : Type 0 where
+  pub both : BothWin madeUp beforeWin beforeWin
+  pub sets : SameSet roster 3 beforeWin 4 beforeWin
+  pub granted3 : AllGranted roster timeouts madeUp 3 1
+  -- the second is broken: node 4 counted an ack of node 1, which did not grant it the epoch
+  pub counted4 : Counted 1 1 (past madeUp 4)
+  pub ungranted : Did (granted 1 4) (past madeUp 1) → ⊥
+
+pub record Examples : Type 0 where
+  pub wins : ANodeWins
+  pub differ : SetsThatDiffer
+  pub made-up : AcksMadeUp

@@ -1,0 +1,4 @@
+pub mod Deeds
+pub mod Calls
+pub mod Demand3
+pub mod Examples
