@@ -1,0 +1,24 @@
+-- A line handed to the node again and again, one turn at a time.
+use mathlib.Core.Path.{_≡_, refl, sym, ap, _∙_}
+use mathlib.Core.List.{List}
+use Prim.Native.Nat.{ℕ, zero, suc, _-_, _≤_, _<_}
+use native.Mathlib.Omega.{arith}
+use Rattle.answers.specs.declared.Answer.the-variants.{Done}
+use Rattle.cases.specs.Cases.{casesNode}
+use Rattle.state.specs.Outcomes.{answered, Stepped}
+use Rattle.state.specs.declared.Node.{Node}
+use Rattle.exports.specs.Steps.{first, onceMore, again}
+
+pub begins : (times : ℕ) (line slots reports : List ℕ) (n : Node) → n ≡ casesNode
+    → again times line (first slots reports) ≡ again times line (record { outcome = answered n Done; slots = slots; reports = reports })
+begins times line slots reports n e = rw e
+
+pub more : (line : List ℕ) (left : ℕ) (s t : Stepped) → 0 < left → t ≡ onceMore line s → again left line s ≡ again (left - 1) line t
+unfolding again
+more line zero s t h e = absurd (omega arith)
+more line (suc n) s t h e = ap (again n line) (sym e) ∙ ap (λ (k : ℕ). again k line t) (let z : n ≡ suc n - 1 = omega arith in z)
+
+pub none : (line : List ℕ) (left : ℕ) (s : Stepped) → left ≤ 0 → again left line s ≡ s
+unfolding again
+none line zero s h = refl
+none line (suc n) s h = absurd (omega arith)

@@ -1,0 +1,33 @@
+-- One line handed to the node of the cases again and again, for callers that time it.
+use Prim.Native.Nat.{ℕ, zero, suc, _+_, _*_, _%_}
+use mathlib.Core.List.{List}
+use Rattle.answers.specs.Answers.{number}
+use Rattle.answers.specs.declared.Answer.the-variants.{Done}
+use Rattle.cases.specs.Cases.{casesNode}
+use Rattle.node.specs.Step.{onFrame}
+use Rattle.state.specs.Outcomes.{answered, Stepped}
+use Rattle.state.specs.declared.Outcome.{Outcome}
+
+-- before the first line
+abbrev pub first : List ℕ → List ℕ → Stepped
+first slots reports = record { outcome = answered casesNode Done; slots = slots; reports = reports }
+
+-- the line once more
+abbrev pub onceMore : List ℕ → Stepped → Stepped
+onceMore line s = onFrame (s .outcome .node) (s .slots) (s .reports) line
+
+unfoldable pub again : ℕ → List ℕ → Stepped → Stepped
+again zero line s = s
+again (suc times) line s = again times line (onceMore line s)
+
+-- the last answer, and the epochs modulo 2^16
+abbrev pub outcomeDigest : Outcome → ℕ
+outcomeDigest o = number (o .answer) + o .node .current % 65536 * 256 + o .node .voted % 65536 * 16777216
+
+pub record Repeated : Type 0 where
+  pub digest : ℕ
+  pub slots : List ℕ
+  pub reports : List ℕ
+
+abbrev pub repeated : Stepped → Repeated
+repeated s = record { digest = outcomeDigest (s .outcome); slots = s .slots; reports = s .reports }
