@@ -5,8 +5,8 @@ use state::Node;
 use state::NodeId;
 use state::Role;
 
-// 19 zero bytes and the node's number.
-fn id(number: u8) -> NodeId
+// A node's id: 19 zero bytes and its number.
+pub fn id(number: u8) -> NodeId
     ensures { λ r. ⌜ r ≡ idOf number ⌝ }
 {
     let mut bytes = [0u8; 20];

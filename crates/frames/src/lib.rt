@@ -80,7 +80,7 @@ fn value(c: u8) -> u8
 }
 
 // Each character is looked at, also after one that is no digit: with no way out of the loop, many are looked at at once.
-fn all_digits(line: &[u8]) -> bool
+pub fn all_digits(line: &[u8]) -> bool
     ensures { λ r. ⌜ r ≡ allDigits (now (line .entry)) ⌝ }
 {
     let mut good = true;
@@ -93,7 +93,7 @@ fn all_digits(line: &[u8]) -> bool
 }
 
 // The value of the character at place k, 0 past the end.
-fn digit_at(line: &[u8], k: usize) -> u8
+pub fn digit_at(line: &[u8], k: usize) -> u8
     ensures { λ r. ⌜ (r ≡ digit (getD (now (line .entry)) k 0)) × (r < 16) ⌝ }
 {
     if k < line.len() {

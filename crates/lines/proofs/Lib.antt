@@ -1,2 +1,3 @@
 pub mod Moves
+pub mod Rooms
 pub mod Texts

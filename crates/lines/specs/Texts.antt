@@ -1,5 +1,7 @@
 -- A text at the front of a buffer, and what is written behind it.
 use Prim.Native.Nat.{ℕ, zero, suc, _+_, _/_}
+use Prim.Native.Char.{code}
+use Prim.Native.String.{String, [] as done, _∷_ as _then_}
 use mathlib.Core.Bool.{cond}
 use mathlib.Core.List.{List, [], _∷_}
 use lib.ListN.{length, set}
@@ -19,6 +21,11 @@ put t b = record { bytes = set (t .bytes) (t .end) b; end = cond (ltb (t .end) (
 unfoldable pub puts : Text → List ℕ → Text
 puts t [] = t
 puts t (b ∷ bs) = puts (put t b) bs
+
+-- a text's characters, each as its code
+unfoldable pub ascii : String → List ℕ
+ascii done = []
+ascii (c then text) = code c ∷ ascii text
 
 -- how many decimal digits a number has, at most 1 + limit
 unfoldable pub width : ℕ → ℕ → ℕ

@@ -75,25 +75,26 @@ pub fn put(out: &mut [u8], at: usize, byte: u8) -> usize
     at
 }
 
+// Adds a text.
+pub fn put_text(out: &mut [u8], at: usize, text: &[u8]) -> usize
+    ensures { λ r. ⌜ record { bytes = now (out .exit); end = r } ≡ puts (record { bytes = now (out .entry); end = at }) (now (text .entry)) ⌝ }
+{
+    let mut end = at;
+    let mut i: usize = 0;
+    while i < text.len() {
+        end = put(out, end, text[i]);
+        i += 1;
+    }
+    end
+}
+
 // Adds a number in decimal.
 pub fn put_number(out: &mut [u8], at: usize, number: u64) -> usize
     ensures { λ r. ⌜ record { bytes = now (out .exit); end = r } ≡ puts (record { bytes = now (out .entry); end = at }) (decimal number) ⌝ }
 {
     let mut digits = [0u8; 20];
     let count = io::decimal(number, &mut digits);
-    put_all(out, at, &digits[..count])
-}
-
-fn put_all(out: &mut [u8], at: usize, bytes: &[u8]) -> usize
-    ensures { λ r. ⌜ record { bytes = now (out .exit); end = r } ≡ puts (record { bytes = now (out .entry); end = at }) (now (bytes .entry)) ⌝ }
-{
-    let mut end = at;
-    let mut i: usize = 0;
-    while i < bytes.len() {
-        end = put(out, end, bytes[i]);
-        i += 1;
-    }
-    end
+    put_text(out, at, &digits[..count])
 }
 
 // Writes the text to standard output, and says how much of it waits then: nothing.

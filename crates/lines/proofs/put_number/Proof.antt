@@ -13,11 +13,11 @@ decimal-requires c κs = search needs
 array-share-prefix-digits : tie.Need-array-share-prefix-digits
 array-share-prefix-digits c = search needs
 
-slice-aggregate-put-all : tie.Need-slice-aggregate-put-all
-slice-aggregate-put-all c = search needs
+slice-aggregate-put-text : tie.Need-slice-aggregate-put-text
+slice-aggregate-put-text c = search needs
 
-put-all-requires : tie.Need-put-all-requires
-put-all-requires c κs = search needs
+put-text-requires : tie.Need-put-text-requires
+put-text-requires c κs = search needs
 
 same-length : tie.Need-same-length
 same-length c = search needs
@@ -25,7 +25,7 @@ same-length c = search needs
 returns : tie.Need-returns
 returns c =
     let d = c .before .before .before .before .before .decimal .ensures in
-    c .before .before .put-all .ensures ∙ ap (puts _) (spelled _ _ _ (omega arith) (d .1 .0) (d .1 .1))
+    c .before .before .put-text .ensures ∙ ap (puts _) (spelled _ _ _ (omega arith) (d .1 .0) (d .1 .1))
 
 pub put-number-spec : {M : Type 1} → statement M
 put-number-spec =
@@ -33,7 +33,7 @@ put-number-spec =
     (tie.spec
     decimal-requires
     array-share-prefix-digits
-    slice-aggregate-put-all
-    put-all-requires
+    slice-aggregate-put-text
+    put-text-requires
     same-length
     returns)

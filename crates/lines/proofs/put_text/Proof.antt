@@ -1,12 +1,12 @@
--- `lines::put_all`: what is left to write is the bytes from place i on.
+-- `lines::put_text`: what is left to write is the bytes from place i on.
 use mathlib.Core.Path.{_≡_, sym, ap, _∙_}
 use Prim.Native.Nat.{_+_, _-_}
 use lib.ListN.{length, drop}
 use Rattle.lines.specs.Texts.{Text, puts}
 use Rattle.lines.proofs.Texts.{one-more, no-more}
 use borrow.Author.Needs.{needs}
-use Rattle.lines.proofs.put_all.Statement.{statement}
-use Rattle.lines.proofs.put_all.Tie as tie
+use Rattle.lines.proofs.put_text.Statement.{statement}
+use Rattle.lines.proofs.put_text.Tie as tie
 
 abbrev Inv-loop : tie.InvT-loop
 Inv-loop out₀ at bytes end₀ i₀ out end i =
@@ -33,7 +33,7 @@ loop-less c = search needs
 loop-again : tie.Need-loop-again Inv-loop μ-loop
 loop-again c =
     let at = c .before .before .before .before .before in
-    (at .before .loop .inv .0 ∙ one-more _ _ _ (at .loop-test .taken) ∙ ap (λ (t : Text). puts t (drop (at .before .loop .i + 1) (at .before .before .before .before .args .bytes .now))) (sym (c .before .before .put .ensures)), search needs)
+    (at .before .loop .inv .0 ∙ one-more _ _ _ (at .loop-test .taken) ∙ ap (λ (t : Text). puts t (drop (at .before .loop .i + 1) (at .before .before .before .before .args .text .now))) (sym (c .before .before .put .ensures)), search needs)
 
 same-length : tie.Need-same-length Inv-loop μ-loop
 same-length c = search needs
@@ -41,8 +41,8 @@ same-length c = search needs
 returns : tie.Need-returns Inv-loop μ-loop
 returns c = sym (c .before .loop .inv .0 ∙ no-more _ _ _ (c .loop-test .left))
 
-pub put-all-spec : {M : Type 1} → statement M
-put-all-spec =
+pub put-text-spec : {M : Type 1} → statement M
+put-text-spec =
     tie.close
     (tie.spec
     Inv-loop
