@@ -1,0 +1,384 @@
+#!/usr/bin/env python3
+"""A run file for the program `replay`, at random but mostly meaningful.
+
+    python3 tests/replay/generate.py SEED COUNT >run.txt
+
+The reference beside this file plays each line as it is written, so that frames carry what their sender knows, times and
+epochs lie near what the receiver remembers, and acks mostly follow grants. Some frames are made up, some lines do not fit.
+The same seed and count give the same file. The count is about the number of lines.
+"""
+import random
+import sys
+from pathlib import Path
+
+sys.dont_write_bytecode = True  # nothing is left behind in the repository
+sys.path.insert(0, str(Path(__file__).resolve().parent))
+from reference import FORMS, TOP, Run, bitmap, node01, slot_of  # noqa: E402
+
+TAGS = [b"foo", b"bar", b"{house12}:phone", b"{house12}:second", b"house41", b"123456789", b"a}b{c", b"foo{}{x}", b"foo{{bar}}zap"]
+ODD_NUMBERS = ["00", "007", "99", "100", "255", "256", "600000", "600001", "16383", "16384", "65535", "65536", "281474976710655"]
+ODD_NUMBERS += ["281474976710656", "999999999999999999", "1000000000000000000", "1000000000000000001", "0" * 30 + "5"]
+ODD_NUMBERS += ["9223372036854775808", "18446744073709551616", "18446744073709551621", "340282366920938463463374607431768211457"]
+ODD_WORDS = ODD_NUMBERS + ["", "-1", "+1", "1.5", "0x10", "1e3", "all", "of", "for", "present", "asking", "claims", "0-", "-5", "5-4", "3-3", "0-1-2", "x", "\x0b", "\x00"]
+
+
+def byte(n):
+    return f"{n % 256:02x}"
+
+
+def wide(n):
+    return f"{n % 2**64:016x}"
+
+
+class Tape:
+    def __init__(self, seed):
+        self.random = random.Random(seed)
+        self.run = Run()
+        self.lines = []
+        self.granted = []  # voter, candidate, epoch
+
+    # ---- writing
+
+    def put(self, line):
+        """A line, its blanks now and then other ones, a comment behind it; the reference plays it."""
+        r = self.random
+        raw = line if isinstance(line, bytes) else line.encode()
+        if r.random() < 0.04:
+            raw = r.choice((b"  ", b"\t", b"\r")) + raw.replace(b" ", r.choice((b"  ", b"\t", b" \t ", b"\r")))
+        if r.random() < 0.04:
+            raw += r.choice((b"\r", b" ", b" # why", b"#", b"\t#\t# open 0 0"))
+        self.lines.append(raw)
+        return self.run.line(len(self.lines), raw)
+
+    def frame(self, to, digits, slots=None):
+        """A frame; a bitmap is put as ranges, or now and then all in digits."""
+        r = self.random
+        if slots is not None:
+            ranges = stretches(slots)
+            if r.random() < 0.06 or len(ranges) > 60:
+                digits += bitmap(ranges).decode()
+            else:
+                r.shuffle(ranges)
+                digits += " claims" + "".join(f" {x[0]}-{x[-1]}" if len(x) > 1 or r.random() < 0.1 else f" {x[0]}" for x in ranges)
+        if r.random() < 0.02:
+            digits = spoiled(r, digits)
+        out = self.put(f"frame {to} {digits}")
+        if out and ": 10 granted" in out[0]:
+            f = node01.parse(self.last_line())
+            self.granted.append((to, f["candidate"], f["current"]))
+
+    def last_line(self):
+        """The frame of the last line, as the node got it."""
+        words = self.lines[-1].split(b"#")[0].split()
+        claims = [range(int(w.split(b"-")[0]), int(w.split(b"-")[-1]) + 1) for w in words[4:]]
+        return words[2] + (bitmap(claims) if len(words) > 3 else b"")
+
+    # ---- what to write
+
+    def nodes(self):
+        return self.run.nodes
+
+    def node(self):
+        return self.random.choice(self.run.nodes)
+
+    def other(self, node):
+        """Another node's number, rarely its own or one that is not there."""
+        r = self.random
+        if r.random() < 0.03 or node.size == 1:
+            return r.choice((node.me, node.size, 200))
+        return r.choice([k for k in range(node.size) if k != node.me])
+
+    def time(self, node):
+        """Mostly forwards, by lengths around T, 2T and 4T of what the node remembers."""
+        r = self.random
+        if r.random() < 0.02:
+            return max(0, node.clock - r.choice((1, 5, 2000)))
+        marks = [x for x in node.ping + node.voted_at + node.failed_at if x is not None] + [x for x in node.reported.values() if x < 2**40]
+        if node.election:
+            marks += [node.election["opened"]] * 3
+        if marks and r.random() < 0.35:
+            aim = r.choice(marks) + r.choice((node.T, 2 * node.T, 2 * node.T, 4 * node.T, 2000, 4000)) + r.choice((-1, 0, 0, 1, 1))
+            if node.clock <= aim < node.clock + 10 * node.T + 10_000:
+                return aim
+        return node.clock + r.choice((0, 0, 0, 1, 2, 50, 100, 400))
+
+    def near(self, n):
+        return max(0, n + self.random.choice((-1, 0, 0, 0, 0, 1, 2)))
+
+    def some_slots(self):
+        r = self.random
+        start = r.randrange(16384)
+        few = [r.choice((0, 1, 7, 8, 63, 64, 5460, 5461, 10922, 10923, 16382, 16383)), r.randrange(16384)]
+        return r.choice(([], few[:1], few, range(start, min(16384, start + r.choice((3, 900, 9000)))), range(0, 16384, 700)))
+
+
+def stretches(slots):
+    """Slots as ranges, as long as they go."""
+    out = []
+    for s in sorted(set(slots)):
+        if out and s == out[-1][-1] + 1:
+            out[-1] = range(out[-1][0], s + 1)
+        else:
+            out.append(range(s, s + 1))
+    return out
+
+
+def spoiled(r, digits):
+    """One digit other, too many or too few."""
+    head, blank, rest = digits.partition(" ")
+    place = r.randrange(min(len(head), 60))
+    head = r.choice((head[:place] + r.choice("0123456789abcdefAFg") + head[place + 1 :], head[:-1], head[:-2], head + "0", head + "00", head[:place] or "0"))
+    return head + blank + rest
+
+
+# ---- frames
+
+
+def heartbeat(t, to=None, sender=None):
+    """What the sender would say of itself, to another; now and then made up."""
+    r = t.random
+    to = to or t.node()
+    sender = t.other(to) if sender is None else sender
+    says = t.nodes()[sender] if sender < to.size else t.node()
+    follows, current, config = says.follows.get(says.me), says.current, says.config[says.me]
+    slots = [s for s in range(16384) if says.owner[s] == says.me] if follows is None else []
+    if r.random() < 0.25:
+        config = t.near(r.choice((config, r.choice(to.config), to.config[to.me])))
+        current = max(t.near(current), config if r.random() < 0.9 else 0)
+        slots = r.choice((slots, t.some_slots()))
+    if r.random() < 0.04:
+        follows = r.choice((None, t.other(to), sender))
+    role = "0000" if follows is None else "01" + byte(follows)
+    t.frame(to.me, "01" + byte(sender) + role + wide(current) + wide(config) + wide(t.time(to)), slots)
+
+
+def report(t):
+    r, to = t.random, t.node()
+    sick = [k for k in range(to.size) if to.flag[k] == "PFAIL"]
+    subject = r.choice(sick) if sick and r.random() < 0.7 else t.other(to)
+    t.frame(to.me, "02" + byte(t.other(to)) + byte(subject) + byte(r.choice((0, 1, 1, 1, 2, 2, 3) if r.random() < 0.3 else (1, 2))) + wide(t.time(to)))
+
+
+def fail(t):
+    to = t.node()
+    t.frame(to.me, "03" + byte(t.other(to)) + byte(t.other(to)) + "00" + wide(t.time(to)))
+
+
+def probe(t):
+    to = t.node()
+    t.frame(to.me, "06" + byte(t.other(to)) + byte(t.random.choice((0, 0, 0, 1))) + "00" + wide(t.time(to)))
+
+
+def tick(t):
+    to = t.node()
+    t.frame(to.me, "07000000" + wide(t.time(to)))
+
+
+def request(t, to=None, candidate=None):
+    """What a candidate would ask; now and then somebody else, or with other epochs and slots."""
+    r = t.random
+    to = to or t.node()
+    running = [n for n in t.nodes() if n.election and n.me != to.me]
+    if candidate is None and running and r.random() < 0.7:
+        candidate = r.choice(running).me
+    if candidate is None:
+        candidate = t.other(to)
+    asks = t.nodes()[candidate] if candidate < to.size else t.node()
+    master = asks.follows.get(asks.me, asks.me)
+    epoch = asks.election["epoch"] if asks.election else t.near(to.current + 1)
+    config = asks.config[master]
+    slots = [s for s in range(16384) if asks.owner[s] == master]
+    if r.random() < 0.2:
+        config, slots = t.near(config), r.choice((slots, t.some_slots()))
+        epoch = max(t.near(epoch), config if r.random() < 0.95 else 0)
+    t.frame(to.me, "04" + byte(candidate) + "0000" + wide(epoch) + wide(config) + wide(t.time(to)), slots)
+
+
+def ack(t, to=None):
+    """Mostly of a vote that was granted, lately if there is such a one; now and then made up."""
+    r = t.random
+    running = [n for n in t.nodes() if n.election]
+    if to is None:
+        to = r.choice(running) if running and r.random() < 0.9 else t.node()
+    mine = [g for g in t.granted if g[1] == to.me and g[0] != to.me]
+    if mine and r.random() < 0.75:
+        voter, candidate, epoch = r.choice(mine[-4:])
+    else:
+        voter, candidate = t.other(to), to.me
+        epoch = to.election["epoch"] if to.election else to.current
+    if r.random() < 0.12:
+        epoch, candidate = t.near(epoch), r.choice((candidate, candidate, t.other(to)))
+    t.frame(to.me, "05" + byte(voter) + byte(candidate) + "00" + wide(epoch) + wide(t.time(to)))
+
+
+# ---- the other calls
+
+
+def opening(t, node=None):
+    r = t.random
+    replicas = [n for n in t.nodes() if n.me in n.follows]
+    node = node or (r.choice(replicas) if replicas and r.random() < 0.85 else t.node())
+    t.put(f"open {node.me} {t.time(node) if r.random() < 0.98 else r.choice((2**48, 2**48 - 1 + 2**49, 10**18))}")
+
+
+def mark(t):
+    r, node = t.random, t.node()
+    slot = r.choice((slot_of(r.choice(TAGS)), r.choice((0, 1, 5460, 5461, 16383, r.randrange(30)))))
+    if r.random() < 0.03:
+        slot = r.choice((16384, 65535))
+    owns = slot < 16384 and node.owner[slot] == node.me
+    if node.marks and r.random() < 0.25:
+        return t.put(f"unmark {node.me} {r.choice(list(node.marks)) if r.random() < 0.8 else slot}")
+    if owns != (r.random() < 0.12):
+        return t.put(f"migrate {node.me} {slot} to {t.other(node)}")
+    return t.put(f"import {node.me} {slot} from {t.other(node)}")
+
+
+def many_marks(t):
+    """Enough of them for the seventeenth to be refused."""
+    node = t.node()
+    for slot in t.random.sample(range(40), 19):
+        side = "migrate", "to"
+        if node.owner[slot] != node.me:
+            side = "import", "from"
+        t.put(f"{side[0]} {node.me} {slot} {side[1]} {t.other(node)}")
+
+
+def key(t):
+    r, node = t.random, t.node()
+    name = r.choice(TAGS) if r.random() < 0.8 else bytes(r.choice(b"abc{}") for _ in range(r.randrange(1, 9)))
+    marked = [x for x in TAGS if slot_of(x) in node.marks]
+    if marked and r.random() < 0.6:
+        name = r.choice(marked)
+    rest = r.choice(("present", "absent", "absent")) + r.choice(("", " asking"))
+    if r.random() < 0.3:
+        name = r.choice((name, name + b" #2", b"\xff" + name, bytes(r.randrange(256) for _ in range(r.randrange(1, 40)))))
+        return t.put(f"hexkey {node.me} {name.hex()} {rest}")
+    if r.random() < 0.1:
+        name += r.choice((b"\xe4", b"\x0b", b"\x00", b"\x0c", b"\x7f"))
+    return t.put(b"key %d %s %s" % (node.me, name, rest.encode()))
+
+
+def entries(t):
+    """What the old code writes: slots and report times."""
+    r, node = t.random, t.node()
+    if r.random() < 0.5:
+        return t.put(f"report {node.me} {r.randrange(node.size)} {r.randrange(node.size)} {max(0, node.clock - r.choice((0, 0, node.T, 2 * node.T, 2 * node.T - 100, -1, -100)))}")
+    first = r.choice((0, r.randrange(16384), slot_of(r.choice(TAGS))))
+    last = min(16383, first + r.choice((0, 0, 1, 500)))
+    owner = r.choice((r.randrange(node.size), r.randrange(node.size), node.size, 65535))
+    return t.put(f"slots {f'{first}-{last}' if last > first else first} of {owner} for {r.choice((node.me, node.me, 'all'))}")
+
+
+def bad(t):
+    """A line that fits or nearly fits, with one word other, too many or too few; or nothing at all."""
+    r = t.random
+    if r.random() < 0.2:
+        return t.put(r.choice(("", "   ", "\t", "# only a comment", "\r", "#", "what is this", "Open 0 0", "rosters 3", "ope 0 0", "\x00", b"\xff\xfe")))
+    word = r.choice(list(FORMS)).decode()
+    good = {
+        "roster": "roster 3", "replica": "replica 1 of 0", "timeout": "timeout 0 1000", "slots": "slots 5-9 of 0 for all", "report": "report 0 0 0 5",
+        "frame": "frame 0 07000000000000000000 claims 5 7-9", "open": "open 0 5", "migrate": "migrate 0 5 to 1", "import": "import 0 5 from 1",
+        "unmark": "unmark 0 5", "key": "key 0 foo absent asking", "hexkey": "hexkey 0 666f6f present asking",
+    }[word].split()
+    place = r.randrange(1, len(good))
+    how = r.randrange(6)
+    if how <= 1:
+        good[place] = r.choice(ODD_WORDS)
+    elif how == 2:
+        good = good[: place]
+    elif how == 3:
+        good.insert(place + 1, r.choice(ODD_WORDS))
+    elif how == 4:
+        good[place] = r.choice((good[place].upper(), good[place] + "#", str(t.random.randrange(20))))
+    elif word == "frame":
+        good += [str(k) for k in range(r.choice((58, 59, 60, 61, 62, 80)))]
+    return t.put(" ".join(good))
+
+
+def failover(t):
+    """A whole election, with losses: a master with slots is FAIL for most, its replicas open, ask and hear."""
+    r = t.random
+    replicas = [n for n in t.nodes() if n.me in n.follows]
+    if not replicas:
+        return
+    first = r.choice(replicas)
+    master = first.follows[first.me]
+    if master not in first.owner and r.random() < 0.8:
+        t.put(f"slots {r.choice(('0-99', '5000-6000', '0-5460'))} of {master} for {r.choice((first.me, 'all'))}")
+    for n in t.nodes():
+        if n.me != master and r.random() < 0.9:
+            t.frame(n.me, "03" + byte(next(k for k in range(n.size + 1) if k != n.me)) + byte(master) + "00" + wide(n.clock + r.choice((0, 1, 2 * n.T))))
+    runners = [first] + [n for n in replicas if n is not first and n.follows[n.me] == master and r.random() < 0.6]
+    for n in runners:
+        wait = max(4 * n.T, 4000) if n.election and r.random() < 0.8 else 0
+        t.put(f"open {n.me} {n.clock + wait + r.choice((0, 1, 100))}")
+    voters = [n for n in t.nodes() if n.me not in n.follows and n.me != master]
+    for n in runners:
+        for voter in voters:
+            if r.random() < 0.85:
+                request(t, voter, n.me)
+    for n in runners:
+        for _ in range(r.randrange(1, 3 + len(voters))):
+            if n.election:
+                ack(t, n)
+    for n in runners:
+        for k in range(n.size):
+            if n.me not in n.follows and k != n.me and r.random() < 0.7:
+                heartbeat(t, t.nodes()[k], n.me)
+
+
+def the_top(t):
+    """Epochs and times at their tops."""
+    for node in t.nodes():
+        other = t.other(node)
+        t.frame(node.me, "01" + byte(other) + "0000" + wide(TOP - t.random.choice((0, 1, 2))) + wide(node.config[node.me]) + wide(node.clock), [])
+    failover(t)
+    for node in t.nodes():
+        t.frame(node.me, "07000000" + wide(2**48 - t.random.choice((0, 1))))
+        t.put(f"open {node.me} {2**48 - 1}")
+
+
+# ---- a whole file
+
+
+def begin(t):
+    r = t.random
+    if r.random() < 0.3:
+        t.put(r.choice(("open 0 0", "slots 0-9 of 0 for all", "replica 1 of 0", "key 0 foo absent", "roster 0", "roster 17", "frame 0 zz")))
+    size = r.choice((1, 2, 3, 4, 5, 5, 5, 6, 6, 7, 8, 9, 12, 16))
+    t.put(f"roster {size}")
+    while t.run.nodes is None:
+        t.put(f"roster {size}")
+    masters = list(range(r.randrange(1, size + 1)))
+    if r.random() < 0.4:
+        r.shuffle(masters)
+    for k in range(size):
+        if k not in masters:
+            t.put(f"replica {k} of {r.choice(masters[:2] + masters if r.random() < 0.95 else range(size))}")
+        if r.random() < 0.25:
+            t.put(f"timeout {k} {r.choice((100, 300, 500, 1500, 3000, 600000))}")
+        if r.random() < 0.08:
+            bad(t)
+    held = sorted(masters)
+    for i, k in enumerate(held):
+        whose = "all" if r.random() < 0.6 else k
+        t.put(f"slots {16384 * i // len(held)}-{16384 * (i + 1) // len(held) - 1} of {k} for {whose}")
+
+
+def generate(seed, count):
+    t = Tape(seed)
+    begin(t)
+    plain = [heartbeat] * 14 + [report] * 8 + [fail] * 3 + [probe] * 14 + [tick] * 14 + [request] * 8 + [ack] * 10
+    plain += [opening] * 6 + [mark] * 8 + [key] * 12 + [entries] * 4 + [bad] * 6 + [failover] * 3
+    while len(t.lines) < count:
+        t.random.choice(plain)(t)
+        if t.random.random() < 0.004:
+            many_marks(t)
+    if t.random.random() < 0.3:
+        the_top(t)
+    return b"".join(line + b"\n" for line in t.lines)
+
+
+if __name__ == "__main__":
+    sys.stdout.buffer.write(generate(int(sys.argv[1]), int(sys.argv[2])))

@@ -1,0 +1,400 @@
+#!/usr/bin/env python3
+"""What the program `replay` must print: a second opinion, written from docs/REPLAY.md and document 01.
+
+    python3 tests/replay/reference.py FILE..
+
+Each file is a run, and has the line `run FILE` before it and an empty line between it and the next. Without a file, standard
+input is the one run, with no line before it.
+
+Not written from the Rattle code. The frames' rules come from tests/node/reference.py; what that node never meets (elections
+of its own, marks, redirections, other rosters) and the run's format stand here. Bad lines, calls and summary come out in the
+order of the file, so a difference shows at the line that made it.
+"""
+import binascii
+import importlib.util
+import itertools
+import os
+import re
+import sys
+from pathlib import Path
+
+sys.dont_write_bytecode = True  # nothing is left behind in the repository
+
+
+def load(name, path):
+    """A module by its file: the node's reference has the same name as this one."""
+    spec = importlib.util.spec_from_file_location(name, path)
+    module = importlib.util.module_from_spec(spec)
+    spec.loader.exec_module(module)
+    return module
+
+
+node01 = load("node_reference", Path(__file__).resolve().parents[1] / "node" / "reference.py")
+TOP, UNOWNED = node01.TOP, node01.UNOWNED
+
+NAMES = {
+    0: "done",
+    1: "a table has the wrong length",
+    2: "not a frame",
+    3: "no such node",
+    4: "time before the clock",
+    5: "out of bounds",
+    6: "own number",
+    7: "the state is not sound",
+    8: "follows itself",
+    9: "epoch at the top",
+    10: "granted",
+    11: "refused, not a master",
+    12: "refused, epoch too low",
+    13: "refused, voted in that epoch already",
+    14: "refused, no replica of a listed master",
+    15: "refused, its master is not FAIL",
+    16: "refused, voted for such a replica lately",
+    17: "refused, a slot's owner is newer",
+    20: "sixteen slots are marked",
+    21: "no such slot",
+    22: "not marked",
+    23: "wrong side",
+    24: "not a replica",
+    25: "its master is not FAIL",
+    26: "its master owns no slot",
+    28: "an election is still young",
+    30: "won",
+    31: "no election is open",
+    32: "for another candidate",
+    33: "of another epoch",
+    34: "voter not in the set",
+    35: "too late",
+    36: "heard already",
+}
+
+
+# ---- a node of any number in any roster
+
+
+class Member(node01.Node):
+    """The node of the cases, made node `me` of `size` masters, with elections, marks and redirections of its own."""
+
+    def __init__(self, size, me):
+        super().__init__()
+        self.size, self.me, self.T = size, me, 1000
+        self.follows = {}
+        self.config = [0] * size
+        self.ping = [None] * size
+        self.flag = ["none"] * size
+        self.failed_at = [None] * size
+        self.voted_at = [None] * size
+        self.election = None  # epoch, time of opening, set of voters, those heard
+        self.marks = {}  # slot -> ("migrating" or "importing", peer)
+
+    def newer(self, f):
+        """The lowest claimed slot whose owner is newer than the request: what 17 names."""
+        return next(s for s in f["claims"] if self.owned(s) and self.config[self.owner[s]] > f["config"])
+
+    def open(self, time):
+        if time >= 2**48:
+            return 5
+        if time < self.clock:
+            return 4
+        self.clock = time
+        if self.master(self.me):
+            return 24
+        master = self.follows[self.me]
+        if self.flag[master] != "FAIL":
+            return 25
+        if master not in self.owner:
+            return 26
+        if self.election and time - self.election["opened"] < max(4 * self.T, 4000):
+            return 28
+        if self.current == TOP:
+            return 9
+        self.current += 1
+        voters = {k for k in range(self.size) if self.master(k)}
+        self.election = dict(epoch=self.current, opened=time, voters=voters, heard=set())
+        return 0
+
+    def ack(self, f):
+        e = self.election
+        if e is None:
+            return 31
+        if f["candidate"] != self.me:
+            return 32
+        if f["current"] != e["epoch"]:
+            return 33
+        if f["voter"] not in e["voters"]:
+            return 34
+        if self.clock - e["opened"] > max(2 * self.T, 2000):
+            return 35
+        if f["voter"] in e["heard"]:
+            return 36
+        e["heard"].add(f["voter"])
+        if 2 * len(e["heard"]) <= len(e["voters"]):
+            return 0
+        old = self.follows.pop(self.me)
+        self.config[self.me] = e["epoch"]
+        self.owner = [self.me if o == old else o for o in self.owner]
+        self.election = None
+        return 30
+
+    def mark(self, slot, side, peer):
+        if slot > 16383:
+            return 21
+        if peer >= self.size:
+            return 3
+        if peer == self.me:
+            return 6
+        if (side == "migrating") != (self.owner[slot] == self.me):
+            return 23
+        if len(self.marks.keys() - {slot}) >= 16:
+            return 20
+        self.marks[slot] = (side, peer)
+        return 0
+
+    def unmark(self, slot):
+        if slot > 16383:
+            return 21
+        return 22 if self.marks.pop(slot, None) is None else 0
+
+    def route(self, key, present, asking):
+        slot = slot_of(key)
+        side, peer = self.marks.get(slot, (None, None))
+        if not self.owned(slot):
+            return "down"
+        if self.owner[slot] == self.me:
+            return f"ASK {slot} {peer}" if side == "migrating" and not present else "serve"
+        return "serve" if side == "importing" and asking else f"MOVED {slot} {self.owner[slot]}"
+
+
+def slot_of(key):
+    start = key.find(b"{")
+    end = key.find(b"}", start + 1)
+    hashed = key[start + 1 : end] if start >= 0 and end > start + 1 else key
+    return binascii.crc_hqx(hashed, 0) % 16384
+
+
+# ---- words: each test gives a word's value, or None where the word does not fit
+
+
+def number(low, high):
+    def test(word):
+        if not re.fullmatch(rb"[0-9]+", word):
+            return None
+        digits = word.lstrip(b"0") or b"0"
+        return int(digits) if len(digits) <= 19 and low <= int(digits) <= high else None
+
+    return test
+
+
+def either(*words):
+    return lambda word: word.decode() if word in [w.encode() for w in words] else None
+
+
+def slot_range(word):
+    parts = [number(0, 16383)(part) for part in word.split(b"-")]
+    if len(parts) > 2 or None in parts or parts[0] > parts[-1]:
+        return None
+    return range(parts[0], parts[-1] + 1)
+
+
+def node_or_all(word):
+    return "all" if word == b"all" else NODE(word)
+
+
+def any_word(word):
+    return word
+
+
+def hex_bytes(word):
+    return bytes.fromhex(word.decode()) if re.fullmatch(rb"([0-9a-f]{2})+", word) else None
+
+
+NODE = number(0, 255)
+SLOT = OWNER = number(0, 65535)
+TIME = number(0, 10**18)
+PRESENT = either("present", "absent")
+MOST_WORDS = 64
+
+# Each call: its form, the words that it needs behind the first, and those that may follow.
+FORMS = {
+    b"roster": ("roster SIZE", [number(1, 16)], []),
+    b"replica": ("replica NODE of MASTER", [NODE, either("of"), NODE], []),
+    b"timeout": ("timeout NODE T", [NODE, number(100, 600_000)], []),
+    b"slots": ("slots RANGE of OWNER for NODE|all", [slot_range, either("of"), OWNER, either("for"), node_or_all], []),
+    b"report": ("report NODE SUBJECT REPORTER TIME", [NODE, NODE, NODE, TIME], []),
+    b"frame": ("frame NODE DIGITS [claims RANGE..]", [NODE, any_word], [either("claims")] + [slot_range] * MOST_WORDS),
+    b"open": ("open NODE TIME", [NODE, TIME], []),
+    b"migrate": ("migrate NODE SLOT to PEER", [NODE, SLOT, either("to"), NODE], []),
+    b"import": ("import NODE SLOT from PEER", [NODE, SLOT, either("from"), NODE], []),
+    b"unmark": ("unmark NODE SLOT", [NODE, SLOT], []),
+    b"key": ("key NODE KEY present|absent [asking]", [NODE, any_word, PRESENT], [either("asking")]),
+    b"hexkey": ("hexkey NODE DIGITS present|absent [asking]", [NODE, hex_bytes, PRESENT], [either("asking")]),
+}
+
+
+class Bad(Exception):
+    """A bad line, with its reason."""
+
+
+def fitted(words):
+    """The values of the words behind the first. The first word that does not fit is named, a missing one by its place."""
+    if words[0] not in FORMS:
+        raise Bad("no call begins like that")
+    form, needed, more = FORMS[words[0]]
+    tests = (needed + more)[: MOST_WORDS - 1]
+    values = []
+    for place in range(2, max(len(words), len(needed) + 1) + 1):
+        value = None
+        if place <= len(words) and place - 2 < len(tests):
+            value = tests[place - 2](words[place - 1])
+        if words[0] == b"replica" and place == 4 and value == values[0]:
+            value = None  # nobody follows itself
+        if value is None:
+            raise Bad(f"word {place} does not fit in '{form}'")
+        values.append(value)
+    return values
+
+
+# ---- a run
+
+
+class Run:
+    def __init__(self):
+        self.nodes = None
+        self.called = False  # whether a call has been made: the roster is settled then
+        self.wins = []  # epoch, node
+
+    def line(self, place, raw):
+        """What is printed for a line. `raw` is bytes without the newline."""
+        words = [w for w in re.split(rb"[\x00-\x20]", raw.split(b"#")[0]) if w]
+        if not words:
+            return []
+        try:
+            values = fitted(words)
+            name = words[0].decode()
+            self.check(name, values)
+        except Bad as bad:
+            return [f"{place} bad line, nothing done: {bad}"]
+        if name in ("roster", "replica", "timeout", "slots", "report"):
+            self.write(name, values)
+            return []
+        self.called = True
+        node = self.nodes[values[0]]
+        said, notices = self.call(node, name, values)
+        return [f"{place} node {node.me}: {said}; currentEpoch {node.current}, lastVoteEpoch {node.last_vote}"] + ["  " + n for n in notices]
+
+    def check(self, name, values):
+        if name == "roster":
+            if self.nodes:
+                raise Bad("the roster stands already")
+            return
+        if not self.nodes:
+            raise Bad("there is no roster yet")
+        if name in ("replica", "timeout") and self.called:
+            raise Bad("the first call was made already")
+        named = {"replica": [values[0], values[-1]], "slots": values[-1:], "report": values[:3]}.get(name, values[:1])
+        for k in named:
+            if k != "all" and k >= len(self.nodes):
+                raise Bad(f"there is no node {k}")
+
+    def write(self, name, values):
+        """What describes the roster, or writes entries as the old code does."""
+        if name == "roster":
+            self.nodes = [Member(values[0], me) for me in range(values[0])]
+        elif name == "replica":
+            for node in self.nodes:
+                node.follows[values[0]] = values[2]
+        elif name == "timeout":
+            self.nodes[values[0]].T = values[1]
+        elif name == "slots":
+            slots, _, owner, _, who = values
+            for node in self.nodes if who == "all" else [self.nodes[who]]:
+                for s in slots:
+                    node.owner[s] = owner
+        else:
+            where, subject, reporter, time = values
+            self.nodes[where].reported[subject, reporter] = time
+
+    def call(self, node, name, values):
+        """The answer in words, and the notices below it."""
+        if name in ("key", "hexkey"):
+            return node.route(values[1], values[2] == "present", len(values) > 3), []
+        if name == "frame":
+            return self.frame(node, values[1] + (bitmap(values[3:]) if len(values) > 2 else b""))
+        if name == "open":
+            answer = node.open(values[1])
+            voters = "".join(f" {k}" for k in sorted(node.election["voters"])) if answer == 0 else ""
+            return f"{answer} {NAMES[answer]}", [f"election opened for epoch {node.current}, voters{voters}"] if answer == 0 else []
+        if name == "unmark":
+            answer = node.unmark(values[1])
+        else:
+            answer = node.mark(values[1], "migrating" if name == "migrate" else "importing", values[3])
+        return f"{answer} {NAMES[answer]}", []
+
+    def frame(self, node, line):
+        flags = list(node.flag)
+        old = node.owner.count(node.follows.get(node.me, UNOWNED))
+        answer = node.line(line)
+        said = f"{answer} {NAMES[answer]}"
+        words = {"none": "is no longer flagged", "PFAIL": "is now PFAIL", "FAIL": "is now FAIL"}
+        notices = [f"node {k} {words[node.flag[k]]}" for k in range(node.size) if node.flag[k] != flags[k]]
+        f = node01.parse(line) if answer != 2 else {}
+        if answer == 10:
+            notices.append(f"vote of epoch {f['current']} granted to node {f['candidate']}")
+        if answer == 17:
+            said += f", slot {node.newer(f)}"
+        if answer == 30:
+            self.wins.append((f["current"], node.me))
+            notices.append(f"epoch {f['current']} won, slots taken over: {old}")
+        if answer == 0 and f["kind"] == 1:
+            sender, (bound, rebound, stale) = f["sender"], node.tally
+            said = f"0 heard, bound {bound}, rebound {rebound}"
+            if bound:
+                notices.append(f"unowned slots that go to node {sender}: {bound}")
+            if rebound:
+                notices.append(f"slots that pass to node {sender}: {rebound}")
+            if stale is not None:
+                said += f", stale at slot {stale}"
+                notices.append(f"node {sender} is stale at slot {stale}")
+        return said, notices
+
+    def summary(self):
+        lines = ["summary"]
+        for node in self.nodes or []:
+            role = f"replica of {node.follows[node.me]}" if node.me in node.follows else "master"
+            flags = "".join(f" {k} {node.flag[k]}" for k in range(node.size) if node.flag[k] != "none") or " none"
+            lines.append(f"node {node.me}: {role}, configEpoch {node.config[node.me]}, slots {node.owner.count(node.me)}, flags{flags}")
+        for i, (epoch, who) in enumerate(self.wins):
+            again = " AGAIN" if epoch in [e for e, _ in self.wins[:i]] else ""
+            lines.append(f"epoch {epoch} won by node {who}{again}")
+        if not self.wins:
+            lines.append("no epoch was won")
+        return lines
+
+
+def bitmap(ranges):
+    bits = bytearray(2048)
+    for s in itertools.chain(*ranges):
+        bits[s // 8] |= 1 << (s % 8)
+    return bits.hex().encode()
+
+
+def played(data):
+    """What is printed for a whole file. A last line needs no newline: where there is none, the empty rest says nothing."""
+    run = Run()
+    lines = []
+    for place, raw in enumerate(data.split(b"\n"), 1):
+        lines += run.line(place, raw)
+    return lines + run.summary()
+
+
+def main(names):
+    out = sys.stdout.buffer
+    if not names:
+        out.write("".join(line + "\n" for line in played(sys.stdin.buffer.read())).encode())
+    for i, name in enumerate(names):
+        out.write((b"\n" if i else b"") + b"run " + os.fsencode(name) + b"\n")
+        out.write("".join(line + "\n" for line in played(Path(name).read_bytes())).encode())
+
+
+if __name__ == "__main__":
+    main(sys.argv[1:])
