@@ -11,7 +11,7 @@ use lib.ListN.{length, take, drop, getD, set, length-drop, length-take}
 use lib.Seq.{paste, paste-zero, paste-suc, length-paste, drop-paste, getD-drop}
 use borrow.Author.Tests.{le-ltb}
 use Rattle.tables.proofs.Walks.{first-within}
-use Rattle.slots.specs.Key.{firstByte}
+use Rattle.tables.specs.Lists.{firstByte}
 use Rattle.tables.specs.Lists.{firstFrom}
 use Rattle.tables.specs.declared.Found.{Found}
 use Rattle.tables.specs.declared.Found.the-variants.{Nothing, At}

@@ -24,7 +24,7 @@ pub fn line_end(buf: &[u8], from: usize, end: usize) -> Found
     if from > end {
         return Found::Nothing;
     }
-    let found = slots::first_byte(&buf[from..end], b'\n');
+    let found = tables::first_byte(&buf[from..end], b'\n');
     match found {
         Found::Nothing => Found::Nothing,
         Found::At(k) => Found::At(from + k),

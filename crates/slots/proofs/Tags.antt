@@ -6,7 +6,8 @@ use native.Mathlib.Omega.{arith}
 use lib.ListN.{length, take, drop, length-drop}
 use lib.Seq.{take-all}
 use borrow.Author.Tests.{ne-eqb}
-use Rattle.slots.specs.Key.{opening, closing, firstByte, upToClosing, afterOpening, hashedPart}
+use Rattle.tables.specs.Lists.{firstByte}
+use Rattle.slots.specs.Key.{opening, closing, upToClosing, afterOpening, hashedPart}
 use Rattle.tables.specs.declared.Found.{Found}
 use Rattle.tables.specs.declared.Found.the-variants.{Nothing, At}
 

@@ -6,7 +6,7 @@ use lib.ListN.{take, drop}
 use lib.Dec.{eqb}
 use lib.Bits.{bitXor}
 use Rattle.tables.specs.Sizes.{slotCount}
-use Rattle.tables.specs.Lists.{firstAt}
+use Rattle.tables.specs.Lists.{firstByte}
 use Rattle.tables.specs.declared.Found.{Found}
 use Rattle.tables.specs.declared.Found.the-variants.{Nothing, At}
 
@@ -19,10 +19,6 @@ opening = 0x7b
 
 abbrev pub closing : ℕ
 closing = 0x7d
-
--- where a byte first stands
-abbrev pub firstByte : ℕ → List ℕ → Found
-firstByte b bytes = firstAt (λ (i x : ℕ). eqb x b) bytes
 
 -- by the first `}` of the rest, which is what stands after the `{`
 unfoldable pub upToClosing : List ℕ → List ℕ → Found → List ℕ

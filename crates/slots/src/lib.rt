@@ -1,39 +1,22 @@
 // From a key to its slot: document 01, "Keys to slots".
 ghost use mathlib.Core.Path.{_≡_};
-ghost use Rattle.slots.specs.Key.{firstByte, hashedPart, withBits, withByte, crc16, keySlot};
+ghost use Rattle.slots.specs.Key.{hashedPart, withBits, withByte, crc16, keySlot};
 ghost use Rattle.slots.specs.Table.{ByHalfByte};
 use tables::Found;
 
 mod table;
-
-// How many slots there are.
-pub const SLOTS: u16 = 16384;
-
-// Where a byte first stands. Programs find the end of a line with it.
-pub fn first_byte(bytes: &[u8], byte: u8) -> Found
-    ensures { λ r. ⌜ r ≡ firstByte byte (now (bytes .entry)) ⌝ }
-{
-    let mut i: usize = 0;
-    while i < bytes.len() {
-        if bytes[i] == byte {
-            return Found::At(i);
-        }
-        i += 1;
-    }
-    Found::Nothing
-}
 
 // The part of the key that decides its slot: what stands between the first `{` and the first `}` after it, so that keys
 // with the same tag share a slot. It is the whole key if there is no such tag or nothing in it.
 pub fn hashed_part(key: &[u8]) -> &[u8]
     ensures { λ r. ⌜ now r ≡ hashedPart (now (key .entry)) ⌝ }
 {
-    let Found::At(open) = first_byte(key, b'{') else {
+    let Found::At(open) = tables::first_byte(key, b'{') else {
         return key;
     };
     let start = open + 1;
     let rest = &key[start..];
-    let Found::At(close) = first_byte(rest, b'}') else {
+    let Found::At(close) = tables::first_byte(rest, b'}') else {
         return key;
     };
     if close == 0 {
@@ -85,9 +68,9 @@ pub fn crc16(bytes: &[u8]) -> u16
     crc
 }
 
-// The key's slot, below `SLOTS`.
+// The key's slot.
 pub fn key_slot(key: &[u8]) -> u16
     ensures { λ r. ⌜ r ≡ keySlot (now (key .entry)) ⌝ }
 {
-    crc16(hashed_part(key)) % SLOTS
+    crc16(hashed_part(key)) % tables::SLOTS
 }

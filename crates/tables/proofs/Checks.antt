@@ -1,4 +1,4 @@
--- Laws of checks: what holds of each answer holds of the outcome, and what a test in code says of a definition.
+-- Laws of conditions, all together or one of them, and what a test in code says of a definition.
 use mathlib.Core.Path.{_≡_, refl, sym, _∙_}
 use mathlib.Core.Bool.{Bool, true, false, cond, not}
 use mathlib.Core.List.{List, [], _∷_}
@@ -6,7 +6,7 @@ use Prim.Native.Nat.{ℕ, zero, suc}
 use native.Mathlib.Omega.{arith}
 use lib.ListN.{getD}
 use borrow.Author.Tests.{not-true, not-false}
-use Rattle.tables.specs.Checks.{checked, allOf, anyOf}
+use Rattle.tables.specs.Checks.{allOf, anyOf}
 
 -- two answers of a test that cannot be
 pub never : {A : Type 0} → true ≡ false → A
@@ -19,30 +19,6 @@ no e h = sym e ∙ not-true _ h
 
 pub yes : {r x : Bool} → r ≡ x → not r ≡ false → x ≡ true
 yes e h = sym e ∙ not-false _ h
-
--- ---- checks in order
-
--- P holds of the answer of each row
-abbrev pub Answers : {A B : Type 0} → (A → Type 0) → (B → A) → List (Bool × B) → Type 0
-Answers P refuse [] = Unit
-Answers P refuse (row ∷ rows) = P (refuse (row .1)) × Answers P refuse rows
-
--- no row applied, by its place
-abbrev pub Passed : {B : Type 0} → List (Bool × B) → Type 0
-Passed {B} rows = (k : ℕ) (d : B) → getD rows k (false, d) .0 ≡ false
-
-join : {B : Type 0} (row : Bool × B) (rows : List (Bool × B)) → row .0 ≡ false → Passed rows → Passed (row ∷ rows)
-join row rows e f zero d = e
-join row rows e f (suc k) d = f k d
-
-by : {A : Type 0} (P : A → Type 0) (t : Bool) (x y : A) → P x → (t ≡ false → P y) → P (cond t x y)
-by P true x y h f = h
-by P false x y h f = f refl
-
--- what holds of each answer, and of what comes after all of them, holds of the outcome; the tests that failed are at hand
-pub through : {A B : Type 0} (P : A → Type 0) (refuse : B → A) (rows : List (Bool × B)) (rest : A) → Answers P refuse rows → (Passed rows → P rest) → P (checked refuse rows rest)
-through P refuse [] rest a f = f (λ k d. refl)
-through P refuse (row ∷ rows) rest a f = by P (row .0) (refuse (row .1)) (checked refuse rows rest) (a .0) (λ e. through P refuse rows rest (a .1) (λ g. f (join row rows e g)))
 
 -- ---- conditions that all hold
 

@@ -5,4 +5,3 @@ pub mod Walks
 pub mod Sets
 pub mod Words
 pub mod Bitmap
-pub mod Ages

@@ -1,28 +1,28 @@
--- Laws of sets of one word: its members are its bits, sets within a size or within another, and one member more.
-use mathlib.Core.Path.{_≡_, refl, sym, ap, ap₂, _∙_}
-use mathlib.Core.Bool.{Bool, true, false, cond, _||_}
+-- Laws of sets over any number of words: members, within and below by members, and a word made from a test.
+use mathlib.Core.Path.{_≡_, refl, sym, ap, _∙_}
+use mathlib.Core.Bool.{Bool, true, false, cond}
 use mathlib.Core.List.{List, [], _∷_}
-use Prim.Native.Nat.{ℕ, zero, suc, _+_, _*_, _/_, _%_, _^_, min, max, _≤_, _<_}
-use native.Mathlib.Nat.{mod-lt, zero-add, add-zero}
+use Prim.Native.Nat.{ℕ, zero, suc, _+_, _-_, _*_, _/_, _%_, _^_, min, _≤_, _<_}
+use native.Mathlib.Nat.{div-eq-of-lt, mod-lt, add-zero, lt-of-lt-of-le, lt-of-le-of-lt, pow-suc}
 use native.Mathlib.Numerals.{add-one}
 use native.Mathlib.Decide.{decLt}
 use native.Mathlib.Omega.{arith}
-use lib.ListN.{getD, List·getD-eq-default}
-use lib.Seq.{set-out}
 use lib.Arith.{bin-ind}
 use lib.Count.{ones}
+use lib.Bits.{bitAnd, bitOr, and-shr, and-mod, and-step, and-zero-l, and-le-r, or-lt}
 use lib.Dec.{eqb, ltb}
-use lib.Bits.{bitAnd, bitOr, and-shr, and-mod, and-step, and-zero-l, and-comm, and-mask, and-block, or-shr, or-mod, or-step, or-zero-l, or-lt}
-use lib.Pow.{pow-pos, pow-lt, split}
-use borrow.Author.Tests.{eqb-true}
-use Rattle.tables.specs.Sets.{bit, has, add, majority, wordOf}
+use lib.ListN.{length, getD, set, List·getD-eq-default}
+use lib.Seq.{set-out}
+use lib.Pow.{pow-pos, pow-mono, pow-lt, split, shr-shr}
+use borrow.Author.Tests.{lt-ltb, le-ltb, ltb-true, eq-eqb, ne-eqb, eqb-true}
+use Rattle.tables.specs.Sets.{bit, has, add, majority, within, below, wordOf}
 use Rattle.tables.proofs.Checks.{never}
-use Rattle.tables.proofs.Sets.{bit-zero, bit-past, has-add}
+use Rattle.tables.proofs.Sets.{AllFit, bit-zero, bit-past}
 
 two : 0 < 2
 two = omega arith
 
--- ---- past the word there is no member
+-- ---- a set of one word: past the word there is no member
 
 past : (w v i : ℕ) → v / 64 ≡ suc i → has (w ∷ []) v ≡ false
 past w v i e = rw e (bit-zero (v % 64))
@@ -41,27 +41,6 @@ bit-member w v l e =
     let m : v % 64 ≡ v = omega arith in
     rw (d, m) e
 
--- ---- bounded by the size
-
-pub within-below : (w size v : ℕ) → w < 2 ^ size → has (w ∷ []) v ≡ true → v < size
-within-below w size v l e = by (decLt v size)
-  where
-    by : Dec (v < size) → v < size
-    by (yes q) = q
-    by (no q) = never (sym (member-bit w v e .1) ∙ bit-past size w v l (omega arith))
-
--- a set made from a test that no number from the size on passes
-pub made-within : (p : ℕ → Bool) (size n : ℕ) → ((k : ℕ) → p k ≡ true → k < size) → wordOf p 0 n < 2 ^ size
-unfolding wordOf
-made-within p size zero f = pow-pos size
-made-within p size (suc n) f = by (p (0 + n)) refl (made-within p size n f)
-  where
-    by : (t : Bool) → t ≡ p (0 + n) → wordOf p 0 n < 2 ^ size → cond t (bitOr (wordOf p 0 n) (2 ^ n)) (wordOf p 0 n) < 2 ^ size
-    by false e h = h
-    by true e h = let l : 0 + n < size = f (0 + n) (sym e) in or-lt size (wordOf p 0 n) (2 ^ n) h (pow-lt (omega arith))
-
--- ---- one within another
-
 and-digit : (r s : ℕ) → r < 2 → s < 2 → eqb (bitAnd r s) 1 ≡ true → eqb s 1 ≡ true
 and-digit zero s h g e = never (sym e)
 and-digit (suc zero) zero h g e = never (sym e)
@@ -76,55 +55,6 @@ bit-and a b k e =
 
 pub within-has : (a b v : ℕ) → bitAnd a b ≡ a → has (a ∷ []) v ≡ true → has (b ∷ []) v ≡ true
 within-has a b v q e = let m = member-bit a v e in bit-member b v (m .0) (bit-and a b v (ap (λ (x : ℕ). bit x v) q ∙ m .1))
-
--- ---- one member more
-
-digits : (r s t : ℕ) → r < 2 → s < 2 → t < 2 → min (bitOr r s) t ≡ max (bitAnd r t) (bitAnd s t)
-digits zero zero zero f g h = refl
-digits zero zero (suc zero) f g h = refl
-digits zero zero (suc (suc t)) f g h = absurd (omega arith)
-digits zero (suc zero) zero f g h = refl
-digits zero (suc zero) (suc zero) f g h = refl
-digits (suc zero) zero zero f g h = refl
-digits (suc zero) zero (suc zero) f g h = refl
-digits (suc zero) (suc zero) zero f g h = refl
-digits (suc zero) (suc zero) (suc zero) f g h = refl
-digits zero (suc zero) (suc (suc t)) f g h = absurd (omega arith)
-digits (suc zero) zero (suc (suc t)) f g h = absurd (omega arith)
-digits (suc zero) (suc zero) (suc (suc t)) f g h = absurd (omega arith)
-digits zero (suc (suc s)) t f g h = absurd (omega arith)
-digits (suc zero) (suc (suc s)) t f g h = absurd (omega arith)
-digits (suc (suc r)) s t f g h = absurd (omega arith)
-
-and-or : (a b c : ℕ) → bitAnd (bitOr a b) c ≡ bitOr (bitAnd a c) (bitAnd b c)
-and-or = bin-ind (λ a. (b c : ℕ) → bitAnd (bitOr a b) c ≡ bitOr (bitAnd a c) (bitAnd b c)) none half
-  where
-    none : (b c : ℕ) → bitAnd (bitOr 0 b) c ≡ bitOr (bitAnd 0 c) (bitAnd b c)
-    none b c = rw (or-zero-l b, and-zero-l c, or-zero-l (bitAnd b c))
-
-    half : (a : ℕ) → ((b c : ℕ) → bitAnd (bitOr (a / 2) b) c ≡ bitOr (bitAnd (a / 2) c) (bitAnd b c)) → (b c : ℕ) → bitAnd (bitOr a b) c ≡ bitOr (bitAnd a c) (bitAnd b c)
-    half a f b c =
-        let high : bitAnd (bitOr a b / 2) (c / 2) ≡ bitOr (bitAnd a c / 2) (bitAnd b c / 2) = ap (λ (x : ℕ). bitAnd x (c / 2)) (or-shr a b 1) ∙ f (b / 2) (c / 2) ∙ ap₂ bitOr (sym (and-shr a c 1)) (sym (and-shr b c 1)) in
-        let low : min (bitOr a b % 2) (c % 2) ≡ max (bitAnd a c % 2) (bitAnd b c % 2) = ap (λ (x : ℕ). min x (c % 2)) (or-mod a b 1) ∙ digits (a % 2) (b % 2) (c % 2) (mod-lt a two) (mod-lt b two) (mod-lt c two) ∙ ap₂ max (sym (and-mod a c 1)) (sym (and-mod b c 1)) in
-        and-step (bitOr a b) c ∙ ap₂ (λ (x y : ℕ). x * 2 + y) high low ∙ sym (or-step (bitAnd a c) (bitAnd b c))
-
-and-power : (w k : ℕ) → bit w k ≡ true → bitAnd (2 ^ k) w ≡ 2 ^ k
-and-power w k e =
-    let d : w / 2 ^ k % 2 ≡ 1 = eqb-true (w / 2 ^ k % 2) 1 e in
-    let u : bitAnd 1 (w / 2 ^ k) ≡ 1 = and-comm 1 (w / 2 ^ k) ∙ and-mask (w / 2 ^ k) 1 ∙ d in
-    let o : 1 * 2 ^ k + 0 ≡ 2 ^ k = omega arith in
-    ap₂ bitAnd (sym o) (sym (split w k))
-    ∙ and-block k 1 (w / 2 ^ k) 0 (w % 2 ^ k) (pow-pos k) (mod-lt w (pow-pos k))
-    ∙ ap₂ (λ (x y : ℕ). x * 2 ^ k + y) u (and-zero-l (w % 2 ^ k))
-    ∙ o
-
--- one member of b more keeps a within b
-pub within-add : (a b v : ℕ) → bitAnd a b ≡ a → has (b ∷ []) v ≡ true → bitAnd (getD (add (a ∷ []) v) 0 0) b ≡ getD (add (a ∷ []) v) 0 0
-within-add a b v q e =
-    let m = member-bit b v e in
-    let d : v / 64 ≡ 0 = omega (arith, m .0) in
-    let r : v % 64 ≡ v = omega (arith, m .0) in
-    rw (d, r) (and-or a (2 ^ v) b ∙ ap₂ bitOr q (and-power b v (m .1)))
 
 -- ---- by numbers below 64, and past them
 
@@ -144,23 +74,171 @@ module _ (w v : ℕ) where
   pub add-out : 64 ≤ v → add (w ∷ []) v ≡ w ∷ []
   add-out h = let d : 1 ≤ v / 64 = omega arith in set-out (w ∷ []) (v / 64) _ d
 
-pub word-more : (p : ℕ → Bool) (n : ℕ) → p n ≡ true → wordOf p 0 (n + 1) ≡ bitOr (wordOf p 0 n) (2 ^ n)
+-- a test alone in a list of tests
+pub alone : (b : Bool) → b ≡ cond b true false
+alone true = refl
+alone false = refl
+
+-- ---- one word
+
+-- below a power of two: nothing is left past its bits
+pub small : (w n : ℕ) → eqb (w / 2 ^ n) 0 ≡ ltb w (2 ^ n)
+small w n = by (decLt w (2 ^ n))
+  where
+    by : Dec (w < 2 ^ n) → eqb (w / 2 ^ n) 0 ≡ ltb w (2 ^ n)
+    by (yes h) = eq-eqb _ 0 (div-eq-of-lt h) ∙ sym (lt-ltb w (2 ^ n) h)
+    by (no f) = ne-eqb (w / 2 ^ n) 0 (λ e. f (left e)) ∙ sym (le-ltb w (2 ^ n) (omega arith))
+      where
+        left : w / 2 ^ n ≡ 0 → w < 2 ^ n
+        left e = let s : 0 * 2 ^ n + w % 2 ^ n ≡ w = ap (λ (x : ℕ). x * 2 ^ n + w % 2 ^ n) (sym e) ∙ split w n in omega (arith, mod-lt w (pow-pos n))
+
+-- the bits of a half
+bit-half : (w k : ℕ) → bit (w / 2) k ≡ bit w (1 + k)
+bit-half w k = ap (λ (x : ℕ). eqb (x % 2) 1) (shr-shr w 1 k)
+
+bit-odd : (w : ℕ) → w % 2 ≡ 1 → bit w 0 ≡ true
+bit-odd w e = let d : w / 1 ≡ w = omega arith in rw (d, e)
+
+odd-bit : (w : ℕ) → bit w 0 ≡ true → w % 2 ≡ 1
+odd-bit w e = let d : w / 1 ≡ w = omega arith in eqb-true (w % 2) 1 (rw d at e)
+
+-- a word whose bits are bits of another
+and-bits : (w v : ℕ) → ((k : ℕ) → bit w k ≡ true → bit v k ≡ true) → bitAnd w v ≡ w
+and-bits = bin-ind (λ w. (v : ℕ) → ((k : ℕ) → bit w k ≡ true → bit v k ≡ true) → bitAnd w v ≡ w) (λ v f. and-zero-l v) half
+  where
+    half : (w : ℕ) → ((v : ℕ) → ((k : ℕ) → bit (w / 2) k ≡ true → bit v k ≡ true) → bitAnd (w / 2) v ≡ w / 2) → (v : ℕ) → ((k : ℕ) → bit w k ≡ true → bit v k ≡ true) → bitAnd w v ≡ w
+    half w g v f =
+        let h : bitAnd (w / 2) (v / 2) ≡ w / 2 = g (v / 2) (λ k e. bit-half v k ∙ f (1 + k) (sym (bit-half w k) ∙ e)) in
+        and-step w v ∙ rw h (by (w % 2) refl)
+      where
+        by : (r : ℕ) → r ≡ w % 2 → w / 2 * 2 + min (w % 2) (v % 2) ≡ w
+        by zero e = omega arith
+        by (suc zero) e = let o : v % 2 ≡ 1 = odd-bit v (f 0 (bit-odd w (sym e))) in omega arith
+        by (suc (suc r)) e = absurd (omega arith)
+
+-- a word all of whose bits are below n
+small-bits : (w n : ℕ) → ((k : ℕ) → bit w k ≡ true → k < n) → w < 2 ^ n
+small-bits = bin-ind (λ w. (n : ℕ) → ((k : ℕ) → bit w k ≡ true → k < n) → w < 2 ^ n) (λ n f. pow-pos n) half
+  where
+    half : (w : ℕ) → ((n : ℕ) → ((k : ℕ) → bit (w / 2) k ≡ true → k < n) → w / 2 < 2 ^ n) → (n : ℕ) → ((k : ℕ) → bit w k ≡ true → k < n) → w < 2 ^ n
+    half w g zero f = let z : w / 2 < 1 = g 0 (λ k e. let l : 1 + k < 0 = f (1 + k) (sym (bit-half w k) ∙ e) in omega arith) in by (w % 2) refl z
+      where
+        by : (r : ℕ) → r ≡ w % 2 → w / 2 < 1 → w < 1
+        by zero e z = omega arith
+        by (suc zero) e z = let l : 0 < 0 = f 0 (bit-odd w (sym e)) in omega arith
+        by (suc (suc r)) e z = absurd (omega arith)
+    half w g (suc n) f = let z : w / 2 < 2 ^ n = g n (λ k e. let l : 1 + k < suc n = f (1 + k) (sym (bit-half w k) ∙ e) in omega arith) in rw (pow-suc 2 n) (omega arith)
+
+-- ---- the first word, and the others
+
+has-low : (w : ℕ) (ws : List ℕ) (k : ℕ) → k < 64 → has (w ∷ ws) k ≡ bit w k
+has-low w ws k h =
+    let d : k / 64 ≡ 0 = omega arith in
+    let m : k % 64 ≡ k = omega arith in
+    rw (d, m)
+
+has-high : (w : ℕ) (ws : List ℕ) (k : ℕ) → has (w ∷ ws) (64 + k) ≡ has ws k
+has-high w ws k =
+    let d : (64 + k) / 64 ≡ suc (k / 64) = omega arith in
+    let m : (64 + k) % 64 ≡ k % 64 = omega arith in
+    rw (d, m)
+
+has-past : (w : ℕ) (ws : List ℕ) (k : ℕ) → 64 ≤ k → has (w ∷ ws) k ≡ has ws (k - 64)
+has-past w ws k h = let e : k ≡ 64 + (k - 64) = omega arith in ap (has (w ∷ ws)) e ∙ has-high w ws (k - 64)
+
+both : (b r : Bool) → cond b r false ≡ true → (b ≡ true) × (r ≡ true)
+both true r h = (refl, h)
+both false r h = never (sym h)
+
+pub within-parts : (p w : ℕ) (ps ws : List ℕ) → within (p ∷ ps) (w ∷ ws) ≡ true → (bitAnd p w ≡ p) × (within ps ws ≡ true)
+within-parts p w ps ws e = let q = both (eqb (bitAnd p w) p) (within ps ws) e in (eqb-true (bitAnd p w) p (q .0), q .1)
+
+below-parts : (w : ℕ) (ws : List ℕ) (n : ℕ) → below (w ∷ ws) n ≡ true → (w < 2 ^ min n 64) × (below ws (n - 64) ≡ true)
+below-parts w ws n e = let q = both (ltb w (2 ^ min n 64)) (below ws (n - 64)) e in (ltb-true w (2 ^ min n 64) (q .0), q .1)
+
+-- ---- within: every member of one is a member of the other
+
+pub within-members : (ps ws : List ℕ) → within ps ws ≡ true → (k : ℕ) → has ps k ≡ true → has ws k ≡ true
+within-members [] ws e k h = never (sym h ∙ bit-zero (k % 64))
+within-members (p ∷ ps) [] e k h = never (sym e)
+within-members (p ∷ ps) (w ∷ ws) e k h = by (decLt k 64) (within-members ps ws (within-parts p w ps ws e .1) (k - 64))
+  where
+    by : Dec (k < 64) → (has ps (k - 64) ≡ true → has ws (k - 64) ≡ true) → has (w ∷ ws) k ≡ true
+    by (yes l) rest = has-low w ws k l ∙ sym (has-low w [] k l) ∙ within-has p w k (within-parts p w ps ws e .0) (has-low p [] k l ∙ sym (has-low p ps k l) ∙ h)
+    by (no f) rest = has-past w ws k (omega arith) ∙ rest (sym (has-past p ps k (omega arith)) ∙ h)
+
+pub members-within : (ps ws : List ℕ) → length ps ≡ length ws → AllFit ps → ((k : ℕ) → has ps k ≡ true → has ws k ≡ true) → within ps ws ≡ true
+members-within [] ws l a f = refl
+members-within (p ∷ ps) [] l a f = absurd (omega arith)
+members-within (p ∷ ps) (w ∷ ws) l a f =
+    rw (eq-eqb (bitAnd p w) p (and-bits p w (λ k e. by k e (decLt k 64))))
+    (members-within ps ws (omega arith) (a .1) (λ k e. sym (has-high w ws k) ∙ f (64 + k) (has-high p ps k ∙ e)))
+  where
+    by : (k : ℕ) → bit p k ≡ true → Dec (k < 64) → bit w k ≡ true
+    by k e (yes h) = sym (has-low w ws k h) ∙ f k (has-low p ps k h ∙ e)
+    by k e (no g) = never (sym e ∙ bit-past 64 p k (a .0) (omega arith))
+
+-- ---- below: every member is below n
+
+pub below-members : (ws : List ℕ) (n : ℕ) → below ws n ≡ true → (k : ℕ) → has ws k ≡ true → k < n
+below-members [] n e k h = never (sym h ∙ bit-zero (k % 64))
+below-members (w ∷ ws) n e k h = by (decLt k 64) (decLt k n) (below-members ws (n - 64) (below-parts w ws n e .1) (k - 64))
+  where
+    by : Dec (k < 64) → Dec (k < n) → (has ws (k - 64) ≡ true → k - 64 < n - 64) → k < n
+    by l (yes g) rest = g
+    by (yes l) (no g) rest = never (sym h ∙ has-low w ws k l ∙ bit-past (min n 64) w k (below-parts w ws n e .0) (omega arith))
+    by (no l) (no g) rest = let m : k - 64 < n - 64 = rest (sym (has-past w ws k (omega arith)) ∙ h) in omega arith
+
+pub members-below : (ws : List ℕ) (n : ℕ) → AllFit ws → ((k : ℕ) → has ws k ≡ true → k < n) → below ws n ≡ true
+members-below [] n a f = refl
+members-below (w ∷ ws) n a f =
+    rw (lt-ltb w (2 ^ min n 64) (small-bits w (min n 64) (λ k e. by k e (decLt k 64))))
+    (members-below ws (n - 64) (a .1) (λ k e. let l : 64 + k < n = f (64 + k) (has-high w ws k ∙ e) in omega arith))
+  where
+    by : (k : ℕ) → bit w k ≡ true → Dec (k < 64) → k < min n 64
+    by k e (yes h) = let l : k < n = f k (has-low w ws k h ∙ e) in omega arith
+    by k e (no g) = never (sym e ∙ bit-past 64 w k (a .0) (omega arith))
+
+pub below-fits : (ws : List ℕ) (n : ℕ) → below ws n ≡ true → AllFit ws
+below-fits [] n e = tt
+below-fits (w ∷ ws) n e = (lt-of-lt-of-le (below-parts w ws n e .0) (pow-mono {j = 64} (omega arith)), below-fits ws (n - 64) (below-parts w ws n e .1))
+
+-- a part of a set whose words fit
+pub within-fits : (ps ws : List ℕ) → within ps ws ≡ true → AllFit ws → AllFit ps
+within-fits [] ws e a = tt
+within-fits (p ∷ ps) [] e a = never (sym e)
+within-fits (p ∷ ps) (w ∷ ws) e a =
+    (rw (within-parts p w ps ws e .0) at (lt-of-le-of-lt (and-le-r p w) (a .0)), within-fits ps ws (within-parts p w ps ws e .1) (a .1))
+
+-- ---- one member more keeps each word within 64 bits
+
+fit-at : (ws : List ℕ) (i : ℕ) → AllFit ws → getD ws i 0 < 2 ^ 64
+fit-at [] i a = pow-pos 64
+fit-at (w ∷ ws) zero a = a .0
+fit-at (w ∷ ws) (suc i) a = fit-at ws i (a .1)
+
+set-fits : (ws : List ℕ) (i x : ℕ) → AllFit ws → x < 2 ^ 64 → AllFit (set ws i x)
+set-fits [] i x a h = tt
+set-fits (w ∷ ws) zero x a h = (h, a .1)
+set-fits (w ∷ ws) (suc i) x a h = (a .0, set-fits ws i x (a .1) h)
+
+pub add-fits : (ws : List ℕ) (v : ℕ) → AllFit ws → AllFit (add ws v)
+add-fits ws v a = let l : v % 64 < 64 = omega arith in set-fits ws (v / 64) _ a (or-lt 64 (getD ws (v / 64) 0) (2 ^ (v % 64)) (fit-at ws (v / 64) a) (pow-lt l))
+
+-- ---- a word made from a test
+
+-- one number more
+module _ (p : ℕ → Bool) (from n : ℕ) where
+  pub word-more : p (from + n) ≡ true → wordOf p from (n + 1) ≡ bitOr (wordOf p from n) (2 ^ n)
+  unfolding wordOf
+  word-more e = rw (add-one n, wordOf, e)
+
+  pub word-same : p (from + n) ≡ false → wordOf p from (n + 1) ≡ wordOf p from n
+  unfolding wordOf
+  word-same e = rw (add-one n, wordOf, e)
+
+-- past the last number that passes nothing changes
+pub word-rest : (p : ℕ → Bool) (from n m : ℕ) → ((k : ℕ) → n ≤ k → p (from + k) ≡ false) → wordOf p from (n + m) ≡ wordOf p from n
 unfolding wordOf
-word-more p n e = rw (add-one n, wordOf, zero-add n, e)
-
-pub word-same : (p : ℕ → Bool) (n : ℕ) → p n ≡ false → wordOf p 0 (n + 1) ≡ wordOf p 0 n
-unfolding wordOf
-word-same p n e = rw (add-one n, wordOf, zero-add n, e)
-
--- the word of a set of one word with a member more
-module _ (w v : ℕ) (h : v < 64) where
-  pub word-add : getD (add (w ∷ []) v) 0 0 ≡ bitOr w (2 ^ v)
-  word-add = ap (λ (ws : List ℕ). getD ws 0 0) (add-in w v h)
-
-  -- those in the set with v: those in the set, and v
-  pub has-more : (k : ℕ) → has (getD (add (w ∷ []) v) 0 0 ∷ []) k ≡ (has (w ∷ []) k || eqb k v)
-  has-more k = ap (λ (ws : List ℕ). has ws k) (ap (λ (x : ℕ). x ∷ []) word-add ∙ sym (add-in w v h)) ∙ has-add (w ∷ []) v k (omega arith)
-
--- a member of a set of one word is below 64
-pub member-small : (w v : ℕ) → has (w ∷ []) v ≡ true → v < 64
-member-small w v e = member-bit w v e .0
+word-rest p from n zero f = let e : n + 0 ≡ n = omega arith in rw e
+word-rest p from n (suc m) f = let e : n + suc m ≡ (n + m) + 1 = omega arith in rw e (word-same p from (n + m) (f (n + m) (omega arith)) ∙ word-rest p from n m f)

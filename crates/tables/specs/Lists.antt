@@ -2,6 +2,7 @@
 use Prim.Native.Nat.{ℕ, suc}
 use mathlib.Core.Bool.{Bool, true, false, cond}
 use mathlib.Core.List.{List, [], _∷_}
+use lib.Dec.{eqb}
 use Rattle.tables.specs.declared.Found.{Found}
 use Rattle.tables.specs.declared.Found.the-variants.{Nothing, At}
 
@@ -29,6 +30,10 @@ countAt p xs = countFrom p 0 xs
 -- the lowest place that passes
 abbrev pub firstAt : {A : Type 0} → (ℕ → A → Bool) → List A → Found
 firstAt p xs = firstFrom p 0 xs
+
+-- where a byte first stands
+abbrev pub firstByte : ℕ → List ℕ → Found
+firstByte b bytes = firstAt (λ (i x : ℕ). eqb x b) bytes
 
 -- a search found something
 abbrev pub isFound : Found → Bool

@@ -1,11 +1,11 @@
 -- Sets of node numbers, as any number of words of 64 bits: v is bit v mod 64 of word v / 64, least first.
-use Prim.Native.Nat.{ℕ, zero, suc, _+_, _*_, _/_, _%_, _^_}
-use mathlib.Core.Bool.{Bool, cond}
+use Prim.Native.Nat.{ℕ, zero, suc, _+_, _-_, _*_, _/_, _%_, _^_, min}
+use mathlib.Core.Bool.{Bool, true, false, cond}
 use mathlib.Core.List.{List, [], _∷_}
 use lib.Dec.{eqb, ltb}
 use lib.Count.{ones}
 use lib.ListN.{getD, set}
-use lib.Bits.{bitOr}
+use lib.Bits.{bitAnd, bitOr}
 
 -- is bit k set in a word
 abbrev pub bit : ℕ → ℕ → Bool
@@ -27,6 +27,17 @@ size (w ∷ ws) = ones w + size ws
 -- more than half of a set are heard, by their counts of ones
 abbrev pub majority : List ℕ → List ℕ → Bool
 majority voters heard = ltb (size voters) (2 * size heard)
+
+-- every member of one set is a member of another of as many words
+abbrev pub within : List ℕ → List ℕ → Bool
+within [] whole = true
+within (w ∷ ws) [] = false
+within (w ∷ ws) (v ∷ vs) = cond (eqb (bitAnd w v) w) (within ws vs) false
+
+-- no number from n on is in the set, and each word fits 64 bits
+abbrev pub below : List ℕ → ℕ → Bool
+below [] n = true
+below (w ∷ ws) n = cond (ltb w (2 ^ min n 64)) (below ws (n - 64)) false
 
 -- the set, of so many words, of the numbers that pass a test
 unfoldable pub wordOf : (ℕ → Bool) → ℕ → ℕ → ℕ

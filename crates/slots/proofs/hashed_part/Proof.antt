@@ -5,7 +5,8 @@ use Prim.Native.Nat.{_+_, _≤_}
 use lib.ListN.{length}
 use lib.Seq.{length-take-le}
 use Rattle.tables.specs.declared.Found.the-variants.{At}
-use Rattle.slots.specs.Key.{opening, firstByte}
+use Rattle.tables.specs.Lists.{firstByte}
+use Rattle.slots.specs.Key.{opening}
 use Rattle.tables.proofs.Walks.{first-within}
 use Rattle.slots.proofs.Tags.{no-opening, no-closing, empty-tag, tagged}
 use borrow.Author.Needs.{needs}

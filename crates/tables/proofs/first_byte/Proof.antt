@@ -1,15 +1,14 @@
--- `slots::first_byte`: from each place on, the search of the rest is the search of the whole.
+-- `tables::first_byte`: from each place on, the search of the rest is the search of the whole.
 use mathlib.Core.Path.{_≡_, refl, sym, _∙_}
 use Prim.Native.Nat.{ℕ, _-_, _≤_}
 use lib.Dec.{eqb}
 use lib.ListN.{length, drop}
 use borrow.Author.Tests.{eq-eqb, ne-eqb}
-use Rattle.tables.specs.Lists.{firstFrom}
-use Rattle.slots.specs.Key.{firstByte}
+use Rattle.tables.specs.Lists.{firstFrom, firstByte}
 use Rattle.tables.proofs.Walks.{first-here, first-past, first-ended}
 use borrow.Author.Needs.{needs}
-use Rattle.slots.proofs.first_byte.Statement.{statement}
-use Rattle.slots.proofs.first_byte.Tie as tie
+use Rattle.tables.proofs.first_byte.Statement.{statement}
+use Rattle.tables.proofs.first_byte.Tie as tie
 
 abbrev Inv-loop : tie.InvT-loop
 Inv-loop bytes byte i₀ i = (i ≤ length bytes) × (firstByte byte bytes ≡ firstFrom (λ (k x : ℕ). eqb x byte) i (drop i bytes))
