@@ -2,14 +2,12 @@
 use mathlib.Core.Path.{_≡_, refl, sym, ap, _∙_}
 use mathlib.Core.Bool.{true, false, not}
 use mathlib.Core.List.{[], _∷_}
-use Prim.Native.Nat.{ℕ, _+_, _-_, _^_, _≤_, _<_}
+use Prim.Native.Nat.{ℕ, _+_, _-_, _≤_, _<_}
 use native.Mathlib.Omega.{arith}
 use lib.ListN.{getD, length}
-use lib.Bits.{bitAnd}
 use lib.Dec.{eqb, ltb}
 use borrow.Author.Tests.{leb-true, ltb-true, eqb-true, eqb-false, not-true}
 use Rattle.tables.specs.Sizes.{nodeRoom, markRoom, top, timeEnd, leastTimeout, mostTimeout}
-use Rattle.tables.specs.Sets.{has}
 use Rattle.tables.proofs.Checks.{part}
 use Rattle.tables.proofs.Below.{each}
 use Rattle.state.specs.Node.{recordAt, markAt, idAt, isMaster}
@@ -18,7 +16,9 @@ use Rattle.state.specs.declared.Role.the-variants.{Replica}
 use Rattle.state.specs.declared.Election.{Election}
 use Rattle.state.specs.declared.Election.the-variants.{Closed, Open}
 use Rattle.soundness.specs.Sound.{sound, soundChecks, arraysWhole, boundsKept, boundChecks, idsAscend, idInOrder, before, followSound, momentSound, flagSound, recordChecks, recordSound, recordSoundAt, recordsSound, electionSound, electionChecks, marksAscend, slotInOrder, marksSound, markSound, markSoundAt, ownClear}
-use Rattle.tables.proofs.Words.{within-below, within-has}
+use Rattle.nodesets.specs.NodeSets.{has, within, below}
+use Rattle.nodesets.specs.declared.NodeSet.{NodeSet}
+use Rattle.nodesets.proofs.Members.{Fits, part-in, below-in, fits-below, part-fits}
 
 module _ (n : Node) (h : sound n ≡ true) where
   pub sound-part : (k : ℕ) → getD (soundChecks n) k true ≡ true
@@ -143,7 +143,7 @@ module _ (n : Node) (h : sound n ≡ true) where
           let z : _≡_ {A = ℕ} 0 1 = cc in absurd (omega arith)
 
 -- what an open one has
-module _ (n : Node) (epoch opened voters heard : ℕ) (h : electionSound n (Open epoch opened voters heard) ≡ true) where
+module _ (n : Node) (epoch opened : ℕ) (voters heard : NodeSet) (h : electionSound n (Open epoch opened voters heard) ≡ true) where
   open-part : (k : ℕ) → getD (electionChecks n epoch opened voters heard) k true ≡ true
   unfolding electionSound
   open-part k = part k (electionChecks n epoch opened voters heard) h
@@ -157,15 +157,22 @@ module _ (n : Node) (epoch opened voters heard : ℕ) (h : electionSound n (Open
   pub open-since : opened ≤ n .clock
   open-since = leb-true opened (n .clock) (open-part 2)
 
-  pub open-voters : voters < 2 ^ n .size
-  open-voters = ltb-true voters (2 ^ n .size) (open-part 3)
+  pub open-voters : below voters (n .size) ≡ true
+  open-voters = open-part 3
 
-  pub open-heard : bitAnd heard voters ≡ heard
-  open-heard = eqb-true (bitAnd heard voters) heard (open-part 4)
+  pub open-heard : within heard voters ≡ true
+  open-heard = open-part 4
+
+  -- every value of the program has sets whose words fit; of a sound state it follows
+  pub voters-fit : Fits voters
+  voters-fit = fits-below voters (n .size) open-voters
+
+  pub heard-fit : Fits heard
+  heard-fit = part-fits heard voters open-heard voters-fit
 
   -- number by number: every voter is in the roster, and every ack heard is a voter's
-  pub voter-listed : (v : ℕ) → has (voters ∷ []) v ≡ true → v < n .size
-  voter-listed v e = within-below voters (n .size) v open-voters e
+  pub voter-listed : (v : ℕ) → has voters v ≡ true → v < n .size
+  voter-listed = below-in voters (n .size) open-voters
 
-  pub heard-voter : (v : ℕ) → has (heard ∷ []) v ≡ true → has (voters ∷ []) v ≡ true
-  heard-voter v e = within-has heard voters v open-heard e
+  pub heard-voter : (v : ℕ) → has heard v ≡ true → has voters v ≡ true
+  heard-voter = part-in heard voters open-heard

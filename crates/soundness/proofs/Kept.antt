@@ -3,7 +3,7 @@ use mathlib.Core.Path.{_≡_, refl, sym, ap, _∙_}
 use mathlib.Core.Bool.{Bool, true, false, cond}
 use mathlib.Core.Logic.{_⊎_, inl, inr}
 use mathlib.Core.List.{List, [], _∷_}
-use Prim.Native.Nat.{ℕ, _+_, _^_, _≤_, _<_}
+use Prim.Native.Nat.{ℕ, _+_, _≤_, _<_}
 use native.Mathlib.Nat.{le-trans}
 use native.Mathlib.Decide.{ℕ-discrete}
 use native.Mathlib.Omega.{arith}
@@ -14,9 +14,8 @@ use borrow.Author.Tests.{leb-true, le-leb, lt-ltb, eq-eqb, ltb-true}
 use Rattle.tables.specs.Sizes.{markRoom, top, timeEnd}
 use Rattle.tables.proofs.Checks.{part}
 use Rattle.tables.proofs.Below.{gather}
-use Rattle.tables.specs.Sets.{has, add, wordsFrom}
-use Rattle.state.specs.Node.{blank, recordAt, masterAt, isMaster, listed}
-use Rattle.state.specs.Changes.{withRole, withConfig, withPing, withFlag, withVote, withRecord, withMarks, withCurrent, withVoted, withClock, withElection, arrived}
+use Rattle.state.specs.Node.{blank, recordAt, masterAt, masters, isMaster, listed}
+use Rattle.state.specs.Changes.{withRole, withConfig, withPing, withFlag, withVote, withRecord, withRecords, withMarks, withCurrent, withVoted, withClock, withElection, arrived}
 use Rattle.state.specs.declared.Node.{Node}
 use Rattle.state.specs.declared.Record.{Record}
 use Rattle.state.specs.declared.Mark.{Mark}
@@ -28,8 +27,10 @@ use Rattle.state.specs.declared.Flag.the-variants.{Clear, Pfail, Fail}
 use Rattle.state.specs.declared.Election.{Election}
 use Rattle.state.specs.declared.Election.the-variants.{Closed, Open}
 use Rattle.soundness.specs.Sound.{sound, arraysWhole, boundsKept, idsAscend, followSound, momentSound, flagSound, recordChecks, recordSound, recordSoundAt, recordsSound, electionSound, electionChecks, marksAscend, marksSound, ownClear}
-use Rattle.soundness.proofs.Facts.{sound-part, bound-part, all-ids, all-records, few-nodes, clock-bounded, current-bounded, me-listed, record-is-sound, election-is-sound, master-closed, open-heard}
-use Rattle.tables.proofs.Words.{made-within, within-add}
+use Rattle.soundness.proofs.Facts.{sound-part, bound-part, all-ids, all-records, few-nodes, clock-bounded, current-bounded, me-listed, record-is-sound, election-is-sound, master-closed, heard-fit}
+use Rattle.nodesets.specs.NodeSets.{none, has, added, below}
+use Rattle.nodesets.specs.declared.NodeSet.{NodeSet}
+use Rattle.nodesets.proofs.Members.{gathered-below, none-within, within-added}
 
 -- all the parts together
 pub rebuilt : (n : Node) → arraysWhole n ≡ true → boundsKept n ≡ true → idsAscend n ≡ true → listed n (n .me) ≡ true → recordsSound n ≡ true → leb (n .voted) (n .current) ≡ true → electionSound n (n .election) ≡ true → marksAscend n ≡ true → marksSound n ≡ true → ownClear (recordAt n (n .me)) ≡ true → sound n ≡ true
@@ -45,25 +46,24 @@ election-like a b s c d r (Open epoch opened voters heard) = rw (s, c, d, r)
 -- ---- an open election
 
 -- one of a replica, with a set within the roster and none heard
-pub opened-election : (n : Node) (epoch opened voters : ℕ) → isMaster (recordAt n (n .me) .role) ≡ false → epoch ≤ n .current → opened ≤ n .clock → voters < 2 ^ n .size → electionSound n (Open epoch opened voters 0) ≡ true
+pub opened-election : (n : Node) (epoch opened : ℕ) (voters : NodeSet) → isMaster (recordAt n (n .me) .role) ≡ false → epoch ≤ n .current → opened ≤ n .clock → below voters (n .size) ≡ true → electionSound n (Open epoch opened voters none) ≡ true
 unfolding electionSound
-opened-election n epoch opened voters m e t v = rw (m, le-leb epoch (n .current) e, le-leb opened (n .clock) t, lt-ltb voters (2 ^ n .size) v)
+opened-election n epoch opened voters m e t v = rw (m, le-leb epoch (n .current) e, le-leb opened (n .clock) t, v) (none-within voters)
 
 -- the masters listed lie within the roster
-pub masters-within : (n : Node) → getD (wordsFrom (masterAt n) 0 1) 0 0 < 2 ^ n .size
-unfolding wordsFrom
-masters-within n = made-within (masterAt n) (n .size) 64 (λ k e. ltb-true k (n .size) (first (listed n k) (isMaster (recordAt n k .role)) e))
+pub masters-below : (n : Node) → below (masters n) (n .size) ≡ true
+masters-below n = gathered-below (masterAt n) (n .size) (λ k e. ltb-true k (n .size) (first (listed n k) (isMaster (recordAt n k .role)) e))
   where
     first : (t u : Bool) → cond t u false ≡ true → t ≡ true
     first true u e = refl
     first false u e = e
 
 -- one ack more of a voter of the set
-pub heard-election : (n : Node) (epoch opened voters heard v : ℕ) → electionSound n (Open epoch opened voters heard) ≡ true → has (voters ∷ []) v ≡ true → electionSound n (Open epoch opened voters (getD (add (heard ∷ []) v) 0 0)) ≡ true
+pub heard-election : (n : Node) (epoch opened : ℕ) (voters heard : NodeSet) (v : ℕ) → electionSound n (Open epoch opened voters heard) ≡ true → has voters v ≡ true → electionSound n (Open epoch opened voters (added heard v)) ≡ true
 unfolding electionSound
 heard-election n epoch opened voters heard v s e =
     let q = electionChecks n epoch opened voters heard in let p : (i : ℕ) → getD q i true ≡ true = λ i. part i q s in
-    rw (p 0, p 1, p 2, p 3) (eq-eqb _ _ (within-add heard voters v (open-heard n epoch opened voters heard s) e))
+    rw (p 0, p 1, p 2, p 3) (within-added heard voters v (heard-fit n epoch opened voters heard s) (p 4) e)
 
 -- ---- one thing of a record changed
 
@@ -168,12 +168,12 @@ module _ (n : Node) (h : sound n ≡ true) where
   closed-sound = election-sound n h Closed refl
 
   -- a replica's opening: currentEpoch goes up by 1 and is its epoch, its set is the masters listed, none heard
-  pub opening-sound : isMaster (recordAt n (n .me) .role) ≡ false → n .current < top → sound (withElection (Open (n .current + 1) (n .clock) (getD (wordsFrom (masterAt n) 0 1) 0 0) 0) (withCurrent (n .current + 1) n)) ≡ true
+  pub opening-sound : isMaster (recordAt n (n .me) .role) ≡ false → n .current < top → sound (withElection (Open (n .current + 1) (n .clock) (masters n) none) (withCurrent (n .current + 1) n)) ≡ true
   unfolding withCurrent
   opening-sound m l =
       let e = n .current + 1 in
-      election-sound (withCurrent e n) (current-sound e (omega arith) (omega arith)) (Open e (n .clock) (getD (wordsFrom (masterAt n) 0 1) 0 0) 0)
-      (opened-election (withCurrent e n) e (n .clock) (getD (wordsFrom (masterAt n) 0 1) 0 0) m (omega arith) (omega arith) (masters-within n))
+      election-sound (withCurrent e n) (current-sound e (omega arith) (omega arith)) (Open e (n .clock) (masters n) none)
+      (opened-election (withCurrent e n) e (n .clock) (masters n) m (omega arith) (omega arith) (masters-below n))
 
   -- ---- marks
 
@@ -197,35 +197,35 @@ module _ (n : Node) (h : sound n ≡ true) where
         by (no d) = rw (getD-set-other (n .records) k j r blank d) (record-is-sound n h j i)
 
     records-kept : recordsSound then ≡ true
-    unfolding recordsSound withRecord
+    unfolding recordsSound withRecords
     records-kept = gather (recordSoundAt then) (n .size) reads
 
     whole-kept : arraysWhole then ≡ true
-    unfolding arraysWhole withRecord
+    unfolding arraysWhole withRecords
     whole-kept = rw (length-set (n .records) k r) (sound-part n h 0)
 
     -- what is recorded of this node: r, or as it was
     own-changed : k ≡ n .me → recordAt then (n .me) ≡ r
-    unfolding withRecord
+    unfolding withRecords
     own-changed e = let long : n .me < length (n .records) = omega (arith, all-records n h, few-nodes n h, me-listed n h) in rw e (getD-set-same (n .records) (n .me) r blank long)
 
     own-kept : (k ≡ n .me → ⊥) → recordAt then (n .me) ≡ recordAt n (n .me)
-    unfolding withRecord
+    unfolding withRecords
     own-kept d = getD-set-other (n .records) k (n .me) r blank (λ e. d (sym e))
 
     joined : electionSound then (n .election) ≡ true → ownClear (recordAt then (n .me)) ≡ true → sound then ≡ true
-    unfolding withRecord boundsKept idsAscend marksAscend marksSound
+    unfolding withRecords boundsKept idsAscend marksAscend marksSound
     joined s o = let p = sound-part n h in rebuilt then whole-kept (p 1) (p 2) (p 3) records-kept (p 5) s (p 7) (p 8) o
 
     -- another node's
     pub other-sound : (k ≡ n .me → ⊥) → sound (withRecord k r n) ≡ true
-    unfolding withRecord
+    unfolding withRecords
     other-sound d =
         let e = own-kept d in
         joined (sym (election-like n then refl refl refl (ap (λ (x : Record). x .role) (sym e)) (n .election)) ∙ election-is-sound n h) (ap ownClear e ∙ sound-part n h 9)
 
     election-kept : isMaster (recordAt then (n .me) .role) ≡ false → (x : Election) → electionSound n x ≡ true → electionSound then x ≡ true
-    unfolding electionSound withRecord
+    unfolding electionSound withRecords
     election-kept m Closed s = refl
     election-kept m (Open a b c d) s =
         let q = electionChecks n a b c d in let p : (i : ℕ) → getD q i true ≡ true = λ i. part i q s in
@@ -254,5 +254,5 @@ module _ (n : Node) (h : sound n ≡ true) where
 
 -- a record changed and the election closed at once: this node's own may become a master's
 pub closing-sound : (n : Node) → sound n ≡ true → (k : ℕ) (r : Record) → (k < n .size → recordSound (n .size) (n .clock) (n .current) k r ≡ true) → (k ≡ n .me → ownClear r ≡ true) → sound (withElection Closed (withRecord k r n)) ≡ true
-unfolding withElection withRecord
+unfolding withElection withRecords
 closing-sound n h k r f o = record-sound (withElection Closed n) (closed-sound n h) k r f (λ e. (o e, inl refl))

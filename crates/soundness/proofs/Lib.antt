@@ -1,5 +1,6 @@
 pub mod Order
+pub mod Arrays
 pub mod Facts
 pub mod Kept
-pub mod Fresh
 pub mod Alike
+pub mod Keeps

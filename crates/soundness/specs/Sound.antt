@@ -1,13 +1,14 @@
 -- When a state is sound: document 01, "The node and what it holds", the paragraph of the bounds, in its order.
-use Prim.Native.Nat.{ℕ, _+_, _-_, _^_}
+use Prim.Native.Nat.{ℕ, _+_, _-_}
 use mathlib.Core.Bool.{Bool, true, false, cond, not}
 use mathlib.Core.List.{List, [], _∷_}
 use lib.Dec.{eqb, ltb, leb}
-use lib.Bits.{bitAnd}
 use lib.ListN.{length}
 use Rattle.tables.specs.Checks.{allOf}
 use Rattle.tables.specs.Below.{every}
 use Rattle.tables.specs.Sizes.{slotCount, nodeRoom, markRoom, top, timeEnd, leastTimeout, mostTimeout}
+use Rattle.nodesets.specs.NodeSets.{within, below}
+use Rattle.nodesets.specs.declared.NodeSet.{NodeSet}
 use Rattle.state.specs.Node.{idAt, recordAt, markAt, isMaster, isClear, listed, peerOf}
 use Rattle.state.specs.declared.Node.{Node}
 use Rattle.state.specs.declared.Record.{Record}
@@ -98,13 +99,13 @@ recordsSound n = every (n .size) (recordSoundAt n)
 
 -- it belongs to a replica, its epoch is not above currentEpoch and its opening is not past the clock,
 -- its set lies within the roster, the numbers below the size, and its heard acks within the set
-abbrev pub electionChecks : Node → ℕ → ℕ → ℕ → ℕ → List Bool
+abbrev pub electionChecks : Node → ℕ → ℕ → NodeSet → NodeSet → List Bool
 electionChecks n epoch opened voters heard =
     not (isMaster (recordAt n (n .me) .role))
     ∷ leb epoch (n .current)
     ∷ leb opened (n .clock)
-    ∷ ltb voters (2 ^ n .size)
-    ∷ eqb (bitAnd heard voters) heard
+    ∷ below voters (n .size)
+    ∷ within heard voters
     ∷ []
 
 unfoldable pub electionSound : Node → Election → Bool

@@ -1,7 +1,14 @@
 // Whether a state is sound: document 01, "The node and what it holds". Cheap tests first, since every frame asks.
 ghost use mathlib.Core.Path.{_≡_};
+ghost use mathlib.Core.Bool.{true, false, cond};
 ghost use Prim.Native.Nat.{_≤_, _<_};
-ghost use Rattle.soundness.specs.Sound.{sound, boundsKept, before, idsAscend, followSound, momentSound, flagSound, recordSound, recordsSound, electionSound, markSound, marksAscend, marksSound, ownClear};
+ghost use Rattle.tables.specs.Checks.{checked};
+ghost use Rattle.state.specs.Node.{recordAt};
+ghost use Rattle.answers.specs.declared.Check.the-variants.{Passed, Refused};
+ghost use Rattle.soundness.specs.Entry.{entryChecks};
+ghost use Rattle.soundness.specs.Sound.{sound, boundsKept, before, followSound, momentSound, flagSound, recordSound, electionSound, markSound, ownClear};
+use answers::Answer;
+use answers::Check;
 use state::Election;
 use state::Flag;
 use state::Mark;
@@ -10,22 +17,6 @@ use state::Node;
 use state::NodeId;
 use state::Record;
 use state::Role;
-
-// T, in milliseconds.
-const LEAST_TIMEOUT: u64 = 100;
-
-const MOST_TIMEOUT: u64 = 600000;
-
-// Times are below 2^48, epochs at most 2^63 - 1.
-const TIME_END: u64 = 281474976710656;
-
-const TOP: u64 = 9223372036854775807;
-
-const MOST_NODES: u16 = 64;
-
-const MOST_MARKS: u16 = 16;
-
-const SLOTS: u16 = 16384;
 
 // Whether an id stands before another, byte by byte.
 fn earlier(a: NodeId, b: NodeId) -> bool
@@ -44,23 +35,6 @@ fn earlier(a: NodeId, b: NodeId) -> bool
         i += 1;
     }
     false
-}
-
-fn ids_ascend(node: Node) -> bool
-    requires { ⌜ node .size ≤ 64 ⌝ }
-    ensures { λ r. ⌜ r ≡ idsAscend node ⌝ }
-{
-    let size = node.size as usize;
-    let mut k: usize = 0;
-    while k + 1 < size {
-        let a = node.ids[k];
-        let b = node.ids[k + 1];
-        if !earlier(a, b) {
-            return false;
-        }
-        k += 1;
-    }
-    true
 }
 
 fn follow_sound(size: u16, k: usize, role: Role) -> bool
@@ -119,25 +93,8 @@ fn record_sound(size: u16, clock: u64, current: u64, k: usize, known: Record) ->
     known.config <= current
 }
 
-fn records_sound(node: Node) -> bool
-    requires { ⌜ node .size ≤ 64 ⌝ }
-    ensures { λ r. ⌜ r ≡ recordsSound node ⌝ }
-{
-    let size = node.size as usize;
-    let mut k: usize = 0;
-    while k < size {
-        let known = node.records[k];
-        if !record_sound(node.size, node.clock, node.current, k, known) {
-            return false;
-        }
-        k += 1;
-    }
-    true
-}
-
-// The set lies within the roster if no bit past the last number's is left of it.
-fn election_sound(node: Node) -> bool
-    requires { ⌜ (1 ≤ node .size) × (node .size ≤ 64) × (node .me < node .size) ⌝ }
+fn election_sound(node: Node, own: Record) -> bool
+    requires { ⌜ own ≡ recordAt node (node .me) ⌝ }
     ensures { λ r. ⌜ r ≡ electionSound node (node .election) ⌝ }
 {
     let election = node.election;
@@ -149,9 +106,7 @@ fn election_sound(node: Node) -> bool
             voters,
             heard,
         } => {
-            let me = node.me as usize;
-            let known = node.records[me];
-            let role = known.role;
+            let role = own.role;
             if state::is_master(role) {
                 return false;
             }
@@ -161,30 +116,12 @@ fn election_sound(node: Node) -> bool
             if node.clock < opened {
                 return false;
             }
-            let last = node.size - 1;
-            if voters >> last > 1 {
+            if nodesets::below(voters, node.size) {} else {
                 return false;
             }
-            heard & voters == heard
+            nodesets::within(heard, voters)
         }
     }
-}
-
-fn marks_ascend(node: Node) -> bool
-    requires { ⌜ node .marked ≤ 16 ⌝ }
-    ensures { λ r. ⌜ r ≡ marksAscend node ⌝ }
-{
-    let marked = node.marked as usize;
-    let mut k: usize = 0;
-    while k + 1 < marked {
-        let a = node.marks[k];
-        let b = node.marks[k + 1];
-        if a.slot >= b.slot {
-            return false;
-        }
-        k += 1;
-    }
-    true
 }
 
 fn mark_sound(size: u16, me: u16, mark: Mark) -> bool
@@ -192,29 +129,13 @@ fn mark_sound(size: u16, me: u16, mark: Mark) -> bool
 {
     let movement = mark.movement;
     let peer = state::peer_of(movement) as u16;
-    if mark.slot >= SLOTS {
+    if mark.slot >= tables::SLOTS {
         return false;
     }
     if peer >= size {
         return false;
     }
     peer != me
-}
-
-fn marks_sound(node: Node) -> bool
-    requires { ⌜ node .marked ≤ 16 ⌝ }
-    ensures { λ r. ⌜ r ≡ marksSound node ⌝ }
-{
-    let marked = node.marked as usize;
-    let mut k: usize = 0;
-    while k < marked {
-        let mark = node.marks[k];
-        if !mark_sound(node.size, node.me, mark) {
-            return false;
-        }
-        k += 1;
-    }
-    true
 }
 
 // This node has no flag and no pending ping of its own.
@@ -237,32 +158,88 @@ fn own_clear(known: Record) -> bool
 fn bounded(node: Node) -> bool
     ensures { λ r. ⌜ r ≡ boundsKept node ⌝ }
 {
-    if node.timeout < LEAST_TIMEOUT {
+    if node.timeout < tables::LEAST_TIMEOUT {
         return false;
     }
-    if node.timeout > MOST_TIMEOUT {
+    if node.timeout > tables::MOST_TIMEOUT {
         return false;
     }
-    if node.clock >= TIME_END {
+    if node.clock >= tables::TIME_END {
         return false;
     }
-    if node.current > TOP {
+    if node.current > tables::TOP {
         return false;
     }
     if node.size < 1 {
         return false;
     }
-    if node.size > MOST_NODES {
+    if node.size > tables::MOST_NODES {
         return false;
     }
-    node.marked <= MOST_MARKS
+    node.marked <= tables::MOST_MARKS
 }
 
-// Whether a state keeps all that document 01 asks of it.
+// What is recorded of this node itself, and its election.
+fn own_sound(node: Node, own: Record) -> bool
+    requires { ⌜ own ≡ recordAt node (node .me) ⌝ }
+    ensures { λ r. ⌜ r ≡ cond (ownClear own) (electionSound node (node .election)) false ⌝ }
+{
+    if own_clear(own) {
+        return election_sound(node, own);
+    }
+    false
+}
+
+// The state's arrays: a function that indexes them copies the state, so no other one of a frame's step does.
+fn arrays_sound(node: Node) -> bool
+    requires { ⌜ (boundsKept node ≡ true) × (node .me < node .size) × (node .voted ≤ node .current) ⌝ }
+    ensures { λ r. ⌜ r ≡ sound node ⌝ }
+{
+    let me = node.me as usize;
+    let own = node.records[me];
+    if own_sound(node, own) {} else {
+        return false;
+    }
+    let marked = node.marked as usize;
+    let mut least: u16 = 0;
+    let mut i: usize = 0;
+    while i < marked {
+        let mark = node.marks[i];
+        if mark_sound(node.size, node.me, mark) {} else {
+            return false;
+        }
+        if mark.slot < least {
+            return false;
+        }
+        least = mark.slot + 1;
+        i += 1;
+    }
+    let size = node.size as usize;
+    let mut k: usize = 0;
+    while k < size {
+        let known = node.records[k];
+        if record_sound(node.size, node.clock, node.current, k, known) {} else {
+            return false;
+        }
+        k += 1;
+    }
+    let mut j: usize = 0;
+    while j + 1 < size {
+        let a = node.ids[j];
+        let b = node.ids[j + 1];
+        if earlier(a, b) {} else {
+            return false;
+        }
+        j += 1;
+    }
+    true
+}
+
+// Whether a state keeps all that document 01 asks of it. Cheap tests come first.
 pub fn sound(node: Node) -> bool
     ensures { λ r. ⌜ r ≡ sound node ⌝ }
 {
-    if !bounded(node) {
+    if bounded(node) {} else {
         return false;
     }
     if node.me >= node.size {
@@ -271,22 +248,18 @@ pub fn sound(node: Node) -> bool
     if node.voted > node.current {
         return false;
     }
-    if !election_sound(node) {
-        return false;
+    arrays_sound(node)
+}
+
+// The checks 1 and 7, which every call makes first, by whether the tables that it is lent have their lengths.
+pub fn entry(node: Node, lengths: bool) -> Check
+    ensures { λ r. ⌜ r ≡ checked Refused (entryChecks lengths node) Passed ⌝ }
+{
+    if lengths {} else {
+        return Check::Refused(Answer::WrongLength);
     }
-    if !marks_ascend(node) {
-        return false;
+    if sound(node) {} else {
+        return Check::Refused(Answer::Unsound);
     }
-    if !marks_sound(node) {
-        return false;
-    }
-    if !records_sound(node) {
-        return false;
-    }
-    if !ids_ascend(node) {
-        return false;
-    }
-    let me = node.me as usize;
-    let known = node.records[me];
-    own_clear(known)
+    Check::Passed
 }

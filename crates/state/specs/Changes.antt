@@ -32,8 +32,8 @@ withVote x r = record { role = r .role; config = r .config; ping = r .ping; flag
 
 -- ---- the node
 
-unfoldable pub withRecord : ℕ → Record → Node → Node
-withRecord k x n = record { ids = n .ids; records = set (n .records) k x; marks = n .marks; size = n .size; me = n .me; marked = n .marked; current = n .current; voted = n .voted; clock = n .clock; timeout = n .timeout; election = n .election }
+unfoldable pub withRecords : List Record → Node → Node
+withRecords xs n = record { ids = n .ids; records = xs; marks = n .marks; size = n .size; me = n .me; marked = n .marked; current = n .current; voted = n .voted; clock = n .clock; timeout = n .timeout; election = n .election }
 
 unfoldable pub withMarks : List Mark → ℕ → Node → Node
 withMarks xs k n = record { ids = n .ids; records = n .records; marks = xs; size = n .size; me = n .me; marked = k; current = n .current; voted = n .voted; clock = n .clock; timeout = n .timeout; election = n .election }
@@ -51,6 +51,9 @@ unfoldable pub withElection : Election → Node → Node
 withElection x n = record { ids = n .ids; records = n .records; marks = n .marks; size = n .size; me = n .me; marked = n .marked; current = n .current; voted = n .voted; clock = n .clock; timeout = n .timeout; election = x }
 
 -- one record of the node changed
+abbrev pub withRecord : ℕ → Record → Node → Node
+withRecord k x n = withRecords (set (n .records) k x) n
+
 abbrev pub onRecord : ℕ → (Record → Record) → Node → Node
 onRecord k f n = withRecord k (f (recordAt n k)) n
 

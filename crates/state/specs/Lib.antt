@@ -1,5 +1,4 @@
 pub mod Node
 pub mod Changes
 pub mod Outcomes
-pub mod Fresh
 pub mod Same

@@ -5,6 +5,8 @@ use mathlib.Core.List.{List, []}
 use lib.Dec.{eqb, ltb}
 use lib.ListN.{getD}
 use Rattle.tables.specs.Lists.{firstAt, isFound}
+use Rattle.nodesets.specs.NodeSets.{gathered}
+use Rattle.nodesets.specs.declared.NodeSet.{NodeSet}
 use Rattle.state.specs.declared.NodeId.{NodeId}
 use Rattle.state.specs.declared.Node.{Node}
 use Rattle.state.specs.declared.Record.{Record}
@@ -62,6 +64,10 @@ listed n k = ltb k (n .size)
 -- a node of the roster that is recorded as a master now
 abbrev pub masterAt : Node → ℕ → Bool
 masterAt n k = cond (listed n k) (isMaster (recordAt n k .role)) false
+
+-- the masters listed now, as a set; their number is its count
+abbrev pub masters : Node → NodeSet
+masters n = gathered (masterAt n)
 
 -- the role of a number; a number outside the roster is nobody's replica
 abbrev pub roleAt : Node → ℕ → Role

@@ -1,13 +1,14 @@
 // The node and what it holds: document 01, "The node and what it holds".
 ghost use mathlib.Core.Path.{_≡_};
-ghost use Prim.Native.Nat.{_-_};
-ghost use Rattle.state.specs.Node.{recordAt, masterAt, isMaster, isFail, isPfail, isClear, peerOf, roleAt, followed, owns};
-ghost use Rattle.state.specs.Changes.{withRole, withConfig, withPing, withFlag, withVote, withRecord, withMarks, withCurrent, withVoted, withClock, withElection, risen, arrived};
-ghost use Rattle.state.specs.Fresh.{newcomer, freshNode, freshSlots, freshReports};
+ghost use Prim.Native.Nat.{min};
+ghost use Rattle.tables.specs.Sizes.{nodeRoom};
+ghost use Rattle.state.specs.Node.{masters, isMaster, isFail, isPfail, isClear, peerOf, followed, owns};
+ghost use Rattle.state.specs.Changes.{withRole, withConfig, withPing, withFlag, withVote, withMarks, withCurrent, withClock, withElection, risen, arrived};
 use answers::Answer;
-
-// The most nodes that a roster has.
-pub const NODES: usize = 64;
+use nodesets::NodeSet;
+use tables::MARKS;
+use tables::MOST_NODES;
+use tables::NODES;
 
 // A node's id. The roster lists its nodes in ascending order of their ids, so their numbers order as the ids do.
 pub struct NodeId {
@@ -63,8 +64,8 @@ pub enum Election {
     Open {
         epoch: u64,
         opened: u64,
-        voters: u64,
-        heard: u64,
+        voters: NodeSet,
+        heard: NodeSet,
     },
 }
 
@@ -83,9 +84,9 @@ pub enum Echo {
 
 // Places of the arrays past `size` or `marked` are no part of the state.
 pub struct Node {
-    pub ids: [NodeId; 64],
-    pub records: [Record; 64],
-    pub marks: [Mark; 16],
+    pub ids: [NodeId; NODES],
+    pub records: [Record; NODES],
+    pub marks: [Mark; MARKS],
     // How many nodes the roster has.
     pub size: u16,
     // This node's own number.
@@ -107,22 +108,6 @@ pub struct Outcome {
     pub node: Node,
 }
 
-// What is known of node k; of a number past the records, nothing.
-pub fn record_at(node: Node, k: usize) -> Record
-    ensures { λ r. ⌜ r ≡ recordAt node k ⌝ }
-{
-    if k < NODES {
-        return node.records[k];
-    }
-    Record {
-        role: Role::Master,
-        config: 0,
-        ping: Moment::Never,
-        flag: Flag::Clear,
-        vote: Moment::Never,
-    }
-}
-
 pub fn is_master(role: Role) -> bool
     ensures { λ r. ⌜ r ≡ isMaster role ⌝ }
 {
@@ -132,30 +117,35 @@ pub fn is_master(role: Role) -> bool
     }
 }
 
-// Whether number k is in the roster and recorded as a master now.
-pub fn master_at(node: Node, k: usize) -> bool
-    ensures { λ r. ⌜ r ≡ masterAt node k ⌝ }
+// How many records the roster has.
+pub fn listed(size: u16) -> u16
+    ensures { λ r. ⌜ r ≡ min size nodeRoom ⌝ }
 {
-    let size = node.size as usize;
-    if k < size {
-        let known = record_at(node, k);
-        let role = known.role;
-        return is_master(role);
+    if size < MOST_NODES {
+        return size;
     }
-    false
+    MOST_NODES
 }
 
-// The role of a number; a number outside the roster is nobody's replica.
-pub fn role_at(node: Node, k: usize) -> Role
-    ensures { λ r. ⌜ r ≡ roleAt node k ⌝ }
+// The masters listed now.
+pub fn masters(node: Node) -> NodeSet
+    ensures { λ r. ⌜ r ≡ masters node ⌝ }
 {
-    let size = node.size as usize;
-    if k < size {
-        let known = record_at(node, k);
+    let end = listed(node.size);
+    let mut set = nodesets::none();
+    let mut k: u16 = 0;
+    while k < end {
+        let i = k as usize;
+        let known = node.records[i];
         let role = known.role;
-        return role;
+        if is_master(role) {
+            set = nodesets::add(set, k);
+            k += 1;
+            continue;
+        }
+        k += 1;
     }
-    Role::Master
+    set
 }
 
 // Whom a replica follows; of a master no rule asks it.
@@ -219,16 +209,6 @@ pub fn owns(slots: &[u16], k: u16) -> bool
         s += 1;
     }
     false
-}
-
-// How long ago t was; 0 if it is to come.
-pub fn since(now: u64, t: u64) -> u64
-    ensures { λ r. ⌜ r ≡ now - t ⌝ }
-{
-    if t <= now {
-        return now - t;
-    }
-    0
 }
 
 // ---- one record, with one thing changed
@@ -303,19 +283,7 @@ pub fn with_vote(known: Record, vote: Moment) -> Record
 
 // ---- the node, with one thing changed
 
-// One record changed; a number past the records changes nothing.
-pub fn with_record(node: Node, k: usize, known: Record) -> Node
-    ensures { λ r. ⌜ r ≡ withRecord k known node ⌝ }
-{
-    if k >= NODES {
-        return node;
-    }
-    let mut next = node;
-    next.records[k] = known;
-    next
-}
-
-pub fn with_marks(node: Node, marks: [Mark; 16], marked: u16) -> Node
+pub fn with_marks(node: Node, marks: [Mark; MARKS], marked: u16) -> Node
     ensures { λ r. ⌜ r ≡ withMarks marks marked node ⌝ }
 {
     let mut next = node;
@@ -329,14 +297,6 @@ pub fn with_current(node: Node, current: u64) -> Node
 {
     let mut next = node;
     next.current = current;
-    next
-}
-
-pub fn with_voted(node: Node, voted: u64) -> Node
-    ensures { λ r. ⌜ r ≡ withVoted voted node ⌝ }
-{
-    let mut next = node;
-    next.voted = voted;
     next
 }
 
@@ -386,72 +346,4 @@ pub fn arrived(node: Node, time: u64, epoch: u64) -> Node
 {
     let current = risen(node.current, epoch);
     with_clock(with_current(node, current), time)
-}
-
-// ---- fresh
-
-fn newcomer(role: Role) -> Record
-    ensures { λ r. ⌜ r ≡ newcomer role ⌝ }
-{
-    Record {
-        role,
-        config: 0,
-        ping: Moment::Never,
-        flag: Flag::Clear,
-        vote: Moment::Never,
-    }
-}
-
-// A fresh node of a roster: clock and epochs 0, no times, flags, marks or election.
-pub fn fresh(ids: [NodeId; 64], roles: [Role; 64], size: u16, me: u16, timeout: u64) -> Node
-    ensures { λ r. ⌜ r ≡ freshNode ids roles size me timeout ⌝ }
-{
-    let first = newcomer(Role::Master);
-    let mut records = [first; 64];
-    let mut k: usize = 0;
-    while k < 64 {
-        let role = roles[k];
-        records[k] = newcomer(role);
-        k += 1;
-    }
-    let mark = Mark {
-        slot: 0,
-        movement: Move::Migrating(0),
-    };
-    let marks = [mark; 16];
-    Node {
-        ids,
-        records,
-        marks,
-        size,
-        me,
-        marked: 0,
-        current: 0,
-        voted: 0,
-        clock: 0,
-        timeout,
-        election: Election::Closed,
-    }
-}
-
-// Every slot unowned.
-pub fn fresh_slots(slots: &mut [u16])
-    ensures { λ _. ⌜ now (slots .exit) ≡ freshSlots (now (slots .entry)) ⌝ }
-{
-    let mut i: usize = 0;
-    while i < slots.len() {
-        slots[i] = 65535;
-        i += 1;
-    }
-}
-
-// Nothing reported.
-pub fn fresh_reports(reports: &mut [u64])
-    ensures { λ _. ⌜ now (reports .exit) ≡ freshReports (now (reports .entry)) ⌝ }
-{
-    let mut i: usize = 0;
-    while i < reports.len() {
-        reports[i] = 0;
-        i += 1;
-    }
 }

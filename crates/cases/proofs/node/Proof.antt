@@ -1,5 +1,5 @@
-use Rattle.cases.specs.Cases.{casesNode}
 -- `cases::node`: the node of the cases, as its ids and roles are set.
+use Rattle.cases.specs.Cases.{casesNode}
 use borrow.Author.Needs.{needs}
 use Rattle.cases.proofs.node.Statement.{statement}
 use Rattle.cases.proofs.node.Tie as tie
@@ -37,12 +37,12 @@ array-set-from-roles c = search needs
 array-set-from-roles-2 : tie.Need-array-set-from-roles-2
 array-set-from-roles-2 c = search needs
 
-fresh-requires : tie.Need-fresh-requires
-fresh-requires c κs = search needs
+node-requires : tie.Need-node-requires
+node-requires c κs = search needs
 
 returns : tie.Need-returns
 unfolding casesNode
-returns c = rw (c .before .id5 .ensures, c .before .before .id4 .ensures, c .before .before .before .id3 .ensures, c .before .before .before .before .id2 .ensures, c .before .before .before .before .before .id .ensures) at (c .fresh .ensures)
+returns c = rw (c .before .id5 .ensures, c .before .before .id4 .ensures, c .before .before .before .id3 .ensures, c .before .before .before .before .id2 .ensures, c .before .before .before .before .before .id .ensures) at (c .node .ensures)
 
 pub node-spec : {M : Type 1} → statement M
 node-spec =
@@ -59,5 +59,5 @@ node-spec =
     array-set-from-ids-4
     array-set-from-roles
     array-set-from-roles-2
-    fresh-requires
+    node-requires
     returns)
