@@ -1,5 +1,1 @@
-pub mod Loops
-pub mod Lists
-pub mod Kept
-pub mod Marked
 pub mod Replies

@@ -5,24 +5,31 @@ use mathlib.Core.List.{List, [], _∷_}
 use Prim.Native.Nat.{ℕ, _<_}
 use lib.ListN.{length}
 use lib.Dec.{eqb, ltb}
-use borrow.Author.Tests.{ltb-true, eqb-true, eqb-false, not-true, not-false}
+use borrow.Author.Tests.{ltb-true, eqb-true, ne-eqb, eqb-false, not-true, not-false}
 use Rattle.tables.specs.Sizes.{slotCount}
 use Rattle.tables.specs.Checks.{checked, allOf}
-use Rattle.tables.proofs.Checks.{through, part}
+use Rattle.tables.proofs.Checks.{part}
+use Rattle.answers.specs.Answers.{number}
+use Rattle.answers.specs.declared.Answer.{Answer}
+use Rattle.answers.specs.declared.Answer.the-variants as answer
+use Rattle.answers.specs.declared.Check.{Check}
+use Rattle.answers.specs.declared.Check.the-variants.{Passed, Refused}
+use Rattle.answers.proofs.Checks.{onCheck, by-check, past}
 use Rattle.slots.specs.Key.{keySlot}
 use Rattle.state.specs.Node.{listed, peerOf}
 use Rattle.state.specs.declared.Node.{Node}
 use Rattle.state.specs.declared.Move.{Move}
 use Rattle.state.specs.declared.Move.the-variants.{Migrating, Importing}
 use Rattle.soundness.specs.Sound.{sound, markSound}
-use Rattle.routing.specs.declared.Marking.{Marking}
-use Rattle.routing.specs.declared.Marking.the-variants.{Unmarked, Moving}
+use Rattle.soundness.specs.Entry.{entryChecks}
+use Rattle.marks.specs.declared.Marking.{Marking}
+use Rattle.marks.specs.declared.Marking.the-variants.{Unmarked, Moving}
 use Rattle.routing.specs.declared.Redirect.{Redirect}
 use Rattle.routing.specs.declared.Redirect.the-variants.{WrongLength, Unsound, Down, Serve, Ask, Moved}
-use Rattle.routing.specs.Marks.{marksOf, markingAt}
-use Rattle.routing.specs.Replies.{Reply, refused, down, serve, ask, moved, reply, ownerAt, isOwn, atHome, elsewhere, redirected, routed, isTaken, Exactly, MovedNames, AskNames}
-use Rattle.routing.proofs.Lists.{found-holds}
-use Rattle.routing.proofs.Kept.{all-sound}
+use Rattle.marks.specs.Marks.{marksOf, markingAt, ownerAt, isOwn}
+use Rattle.routing.specs.Replies.{Reply, refused, down, serve, ask, moved, reply, isEntry, atHome, elsewhere, redirected, routed, isTaken, Exactly, MovedNames, AskNames}
+use Rattle.marks.proofs.Lists.{found-holds}
+use Rattle.marks.proofs.Kept.{any, all-sound}
 
 -- ---- a reply tells the case and its values
 
@@ -46,24 +53,56 @@ reply-settles a b e = sym (case-of a) ∙ ap case e ∙ case-of b
 
 -- ---- which is given exactly when
 
-by-cases : (long fine owned own present asking : Bool) (marking : Marking) (s o : ℕ)
-    → Exactly (allOf (long ∷ fine ∷ [])) owned own present asking marking (checked refused ((not long, 1) ∷ (not fine, 7) ∷ []) (cond (not owned) down (cond own (atHome s present marking) (elsewhere s o asking marking))))
-by-cases false fine owned own p a m s o = record { refused = refl; down = refl; ask = refl; moved = refl; serve = refl }
-by-cases true false owned own p a m s o = record { refused = refl; down = refl; ask = refl; moved = refl; serve = refl }
-by-cases true true false own p a m s o = record { refused = refl; down = refl; ask = refl; moved = refl; serve = refl }
-by-cases true true true true p a Unmarked s o = record { refused = refl; down = refl; ask = refl; moved = refl; serve = refl }
-by-cases true true true true true a (Moving (Migrating q)) s o = record { refused = refl; down = refl; ask = refl; moved = refl; serve = refl }
-by-cases true true true true false a (Moving (Migrating q)) s o = record { refused = refl; down = refl; ask = refl; moved = refl; serve = refl }
-by-cases true true true true p a (Moving (Importing q)) s o = record { refused = refl; down = refl; ask = refl; moved = refl; serve = refl }
-by-cases true true true false p a Unmarked s o = record { refused = refl; down = refl; ask = refl; moved = refl; serve = refl }
-by-cases true true true false p a (Moving (Migrating q)) s o = record { refused = refl; down = refl; ask = refl; moved = refl; serve = refl }
-by-cases true true true false p true (Moving (Importing q)) s o = record { refused = refl; down = refl; ask = refl; moved = refl; serve = refl }
-by-cases true true true false p false (Moving (Importing q)) s o = record { refused = refl; down = refl; ask = refl; moved = refl; serve = refl }
+-- no check refused
+abbrev passes : Check → Bool
+passes Passed = true
+passes (Refused a) = false
+
+taken : (l : Bool) (n : Node) → passes (checked Refused (entryChecks l n) Passed) ≡ allOf (l ∷ sound n ∷ [])
+taken false n = refl
+taken true n = by (sound n)
+  where
+    by : (t : Bool) → passes (cond (not t) (Refused answer.Unsound) Passed) ≡ t
+    by true = refl
+    by false = refl
+
+-- a reply by what the checks came to
+abbrev sent : Reply → Check → Reply
+sent = onCheck (λ a. refused (number a))
+
+by-cases : (c : Check) (owned own present asking : Bool) (marking : Marking) (s o : ℕ)
+    → Exactly (passes c) owned own present asking marking (sent (cond (not owned) down (cond own (atHome s present marking) (elsewhere s o asking marking))) c)
+by-cases (Refused r) owned own p a m s o = record { refused = refl; down = refl; ask = refl; moved = refl; serve = refl }
+by-cases Passed false own p a m s o = record { refused = refl; down = refl; ask = refl; moved = refl; serve = refl }
+by-cases Passed true true p a Unmarked s o = record { refused = refl; down = refl; ask = refl; moved = refl; serve = refl }
+by-cases Passed true true true a (Moving (Migrating q)) s o = record { refused = refl; down = refl; ask = refl; moved = refl; serve = refl }
+by-cases Passed true true false a (Moving (Migrating q)) s o = record { refused = refl; down = refl; ask = refl; moved = refl; serve = refl }
+by-cases Passed true true p a (Moving (Importing q)) s o = record { refused = refl; down = refl; ask = refl; moved = refl; serve = refl }
+by-cases Passed true false p a Unmarked s o = record { refused = refl; down = refl; ask = refl; moved = refl; serve = refl }
+by-cases Passed true false p a (Moving (Migrating q)) s o = record { refused = refl; down = refl; ask = refl; moved = refl; serve = refl }
+by-cases Passed true false p true (Moving (Importing q)) s o = record { refused = refl; down = refl; ask = refl; moved = refl; serve = refl }
+by-cases Passed true false p false (Moving (Importing q)) s o = record { refused = refl; down = refl; ask = refl; moved = refl; serve = refl }
 
 pub exactly : (n : Node) (slots key : List ℕ) (present asking : Bool)
     → Exactly (isTaken n slots) (listed n (ownerAt slots (keySlot key))) (isOwn n slots (keySlot key)) present asking (markingAt n (keySlot key)) (routed n slots key present asking)
 unfolding routed
-exactly n slots key p a = by-cases (eqb (length slots) slotCount) (sound n) (listed n (ownerAt slots (keySlot key))) (isOwn n slots (keySlot key)) p a (markingAt n (keySlot key)) (keySlot key) (ownerAt slots (keySlot key))
+exactly n slots key p a =
+    let s = keySlot key in let o = ownerAt slots s in let m = markingAt n s in let l = eqb (length slots) slotCount in
+    let rows = entryChecks l n in let c = checked Refused rows Passed in let rest = redirected n slots s p a in
+    subst (λ (t : Bool). Exactly t (listed n o) (isOwn n slots s) p a m (checked (λ b. refused (number b)) rows rest)) (taken l n)
+    (subst (λ (r : Reply). Exactly (passes c) (listed n o) (isOwn n slots s) p a m r) (sym (by-check (λ b. refused (number b)) rows rest)) (by-cases c (listed n o) (isOwn n slots s) p a m s o))
+
+-- ---- a refusal is 1 or 7
+
+abbrev Fits : Check → Type 0
+Fits Passed = Unit
+Fits (Refused a) = isEntry a ≡ true
+
+pub entry-refusal : (l : Bool) (n : Node) (a : Answer) → checked Refused (entryChecks l n) Passed ≡ Refused a → isEntry a ≡ true
+entry-refusal l n a e = subst Fits e (past Fits isEntry Refused (entryChecks l n) Passed refl (λ b q. q) (λ f. tt))
+
+pub one-or-seven : (a : Answer) → isEntry a ≡ true → (number a ≡ 1 → ⊥) → number a ≡ 7
+one-or-seven a h d = eqb-true (number a) 7 (rw (ne-eqb (number a) 1 d) at h)
 
 -- ---- what MOVED and ASK name
 
@@ -103,8 +142,8 @@ module _ (n : Node) (slots key : List ℕ) where
 
   names : (present asking : Bool) → Names (routed n slots key present asking)
   unfolding routed
-  names p a = through Names refused ((not (eqb (length slots) slotCount), 1) ∷ (not (sound n), 7) ∷ []) (redirected n slots s p a) (tt, (tt, tt)) (λ f.
-      by (not-false (sound n) (f 1 0)) (listed n owner) refl (isOwn n slots s) refl)
+  names p a = past Names any (λ b. refused (number b)) (entryChecks (eqb (length slots) slotCount) n) (redirected n slots s p a) refl (λ b q. tt) (λ f.
+      by (not-false (sound n) (f 7)) (listed n owner) refl (isOwn n slots s) refl)
     where
       by : sound n ≡ true → (t : Bool) → t ≡ listed n owner → (o : Bool) → o ≡ isOwn n slots s → Names (cond (not t) down (cond o (atHome s p (markingAt n s)) (elsewhere s owner a (markingAt n s))))
       by h false e o g = tt

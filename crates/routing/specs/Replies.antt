@@ -3,18 +3,21 @@ use Prim.Native.Nat.{ℕ, _<_}
 use mathlib.Core.Path.{_≡_}
 use mathlib.Core.Bool.{Bool, true, false, cond, not}
 use mathlib.Core.List.{List, [], _∷_}
-use lib.ListN.{length, getD}
+use lib.ListN.{length}
 use lib.Dec.{eqb}
 use Rattle.tables.specs.Sizes.{slotCount}
 use Rattle.tables.specs.Checks.{checked, allOf, anyOf}
+use Rattle.answers.specs.Answers.{number}
+use Rattle.answers.specs.declared.Answer.{Answer}
 use Rattle.slots.specs.Key.{keySlot}
 use Rattle.state.specs.Node.{listed}
 use Rattle.state.specs.declared.Node.{Node}
 use Rattle.state.specs.declared.Move.the-variants.{Migrating, Importing}
 use Rattle.soundness.specs.Sound.{sound}
-use Rattle.routing.specs.Marks.{markingAt}
-use Rattle.routing.specs.declared.Marking.{Marking}
-use Rattle.routing.specs.declared.Marking.the-variants.{Unmarked, Moving}
+use Rattle.soundness.specs.Entry.{entryChecks}
+use Rattle.marks.specs.Marks.{markingAt, ownerAt, isOwn}
+use Rattle.marks.specs.declared.Marking.{Marking}
+use Rattle.marks.specs.declared.Marking.the-variants.{Unmarked, Moving}
 use Rattle.routing.specs.declared.Redirect.{Redirect}
 use Rattle.routing.specs.declared.Redirect.the-variants.{WrongLength, Unsound, Down, Serve, Ask, Moved}
 
@@ -28,6 +31,10 @@ pub data Reply : Type 0 where
   ask : ℕ → ℕ → Reply
   moved : ℕ → ℕ → Reply
 
+-- an answer that a call may be refused with: 1 or 7
+abbrev pub isEntry : Answer → Bool
+isEntry a = anyOf (eqb (number a) 1 ∷ eqb (number a) 7 ∷ [])
+
 -- what each case of the code's answer says
 abbrev pub reply : Redirect → Reply
 reply WrongLength = refused 1
@@ -38,14 +45,6 @@ reply (Ask s peer) = ask s peer
 reply (Moved s owner) = moved s owner
 
 -- ---- which is given
-
--- a slot's entry
-abbrev pub ownerAt : List ℕ → ℕ → ℕ
-ownerAt slots s = getD slots s 0
-
--- this node owns the slot
-abbrev pub isOwn : Node → List ℕ → ℕ → Bool
-isOwn n slots s = eqb (ownerAt slots s) (n .me)
 
 abbrev pub isMigrating : Marking → Bool
 isMigrating Unmarked = false
@@ -76,8 +75,7 @@ redirected n slots s present asking =
 -- refusals 1, then 7; then by the key's slot
 unfoldable pub routed : Node → List ℕ → List ℕ → Bool → Bool → Reply
 routed n slots key present asking =
-    checked refused ((not (eqb (length slots) slotCount), 1) ∷ (not (sound n), 7) ∷ [])
-    (redirected n slots (keySlot key) present asking)
+    checked (λ a. refused (number a)) (entryChecks (eqb (length slots) slotCount) n) (redirected n slots (keySlot key) present asking)
 
 -- ---- which is given exactly when; `proofs/Replies.antt` proves it of `routed`
 

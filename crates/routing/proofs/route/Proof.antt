@@ -1,79 +1,71 @@
--- `routing::route` meets its contract.
-use Prim.Native.Nat.{_<_}
-use borrow.Author.Tests.{le-ltb, lt-ltb, eq-eqb, ne-eqb}
-use Rattle.tables.proofs.Checks.{no, yes}
-use Rattle.slots.proofs.Slots.{key-slot-below}
-use Rattle.soundness.proofs.Facts.{few-marks}
-use Rattle.routing.specs.Replies.{routed}
+-- `routing::route` meets its contract: 1 and 7, and then by the key's slot.
+use mathlib.Core.Path.{_≡_, sym, ap, _∙_}
+use lib.ListN.{length}
+use lib.Dec.{eqb}
+use borrow.Author.Tests.{eqb-true, not-false}
 use borrow.Author.Needs.{needs}
+use Rattle.tables.specs.Sizes.{slotCount}
+use Rattle.tables.specs.Checks.{checked}
+use Rattle.answers.specs.Answers.{number}
+use Rattle.answers.specs.declared.Check.the-variants.{Passed, Refused}
+use Rattle.answers.proofs.Checks.{onCheck, by-check, unrefused}
+use Rattle.slots.specs.Key.{keySlot}
+use Rattle.slots.proofs.Slots.{key-slot-below}
+use Rattle.soundness.specs.Entry.{entryChecks}
+use Rattle.routing.specs.Replies.{refused, redirected, routed}
+use Rattle.routing.proofs.Replies.{entry-refusal}
 use Rattle.routing.proofs.route.Statement.{statement}
 use Rattle.routing.proofs.route.Tie as tie
 
-cast-if1 : tie.Need-cast-if1
-cast-if1 c = search needs
-
-returns : tie.Need-returns
+-- the definition, by what the first checks came to
+told : (c : tie.After-entry) → let a = c .before .before .before .args in
+    routed (a .node) (a .slots .now) (a .key .now) (a .present) (a .asking) ≡ onCheck (λ r. refused (number r)) (redirected (a .node) (a .slots .now) (keySlot (a .key .now)) (a .present) (a .asking)) (c .entry .result)
 unfolding routed
-returns c = rw (ne-eqb _ _ (c .if1 .taken))
+told c = let a = c .before .before .before .args in
+    by-check (λ r. refused (number r)) (entryChecks (eqb (length (a .slots .now)) slotCount) (a .node)) _ ∙ ap (onCheck (λ r. refused (number r)) _) (sym (c .entry .ensures))
 
-sound-requires : tie.Need-sound-requires
-sound-requires c κs = search needs
+cast-entry : tie.Need-cast-entry
+cast-entry c = search needs
 
-returns-2 : tie.Need-returns-2
-unfolding routed
-returns-2 c = rw (eq-eqb _ _ (c .before .before .if1 .left), no (c .before .sound .ensures) (c .if2 .taken))
+entry-requires : tie.Need-entry-requires
+entry-requires c κs = search needs
+
+enum-known-check : tie.Need-enum-known-check
+enum-known-check c = search needs
+
+refused-requires : tie.Need-refused-requires
+refused-requires c κs = let e = c .before .before .before in let a = e .before .before .before .args in
+    entry-refusal (eqb (length (a .slots .now)) slotCount) (a .node) _ (sym (e .entry .ensures) ∙ c .before .check .given .1)
+
+enum-told : tie.Need-enum-told
+enum-told c = search needs
 
 key-slot-requires : tie.Need-key-slot-requires
 key-slot-requires c κs = search needs
 
-cast-owner : tie.Need-cast-owner
-cast-owner c = search needs
+redirected-requires : tie.Need-redirected-requires
+redirected-requires c κs =
+    let t = c .before in let e = t .before .before in let a = e .before .before .before .args in let l = length (a .slots .now) in let rows = entryChecks (eqb l slotCount) (a .node) in
+    let p : checked Refused rows Passed ≡ Passed = sym (e .entry .ensures) ∙ t .enum-told .given .1 in
+    rw (c .key-slot .ensures, eqb-true l slotCount (not-false _ (unrefused 1 rows p))) (key-slot-below (a .key .now))
 
-mul-owner : tie.Need-mul-owner
-mul-owner c = search needs
+returns : tie.Need-returns
+returns c = c .refused .ensures ∙ sym (told (c .before .before .before .before) ∙ rw (c .before .before .check .given .1))
 
-shared-slice-read-owner : tie.Need-shared-slice-read-owner
-shared-slice-read-owner c = let h : c .before .key-slot .result < 16384 = rw (c .before .key-slot .ensures) (key-slot-below _) in search needs
-
-returns-3 : tie.Need-returns-3
-unfolding routed
-returns-3 c = let k = c .before .before .before in let d = k .before in
-    rw (eq-eqb _ _ (d .before .before .if1 .left), yes (d .before .sound .ensures) (d .if2 .left), ← k .key-slot .ensures, le-ltb _ _ (c .if3 .taken))
-
-find-requires : tie.Need-find-requires
-find-requires c κs = let d = c .before .before .before .before in few-marks _ (yes (d .before .sound .ensures) (d .if2 .left))
-
-at-home-requires : tie.Need-at-home-requires
-at-home-requires c κs = search needs
-
-returns-4 : tie.Need-returns-4
-unfolding routed
-returns-4 c = let f = c .before .before .before in let e = f .before in let k = e .before .before .before in let d = k .before in
-    rw (eq-eqb _ _ (d .before .before .if1 .left), yes (d .before .sound .ensures) (d .if2 .left), ← k .key-slot .ensures, lt-ltb _ _ (e .if3 .left), eq-eqb _ _ (c .before .if4 .taken), ← f .find .ensures) (c .at-home .ensures)
-
-elsewhere-requires : tie.Need-elsewhere-requires
-elsewhere-requires c κs = search needs
-
-returns-5 : tie.Need-returns-5
-unfolding routed
-returns-5 c = let f = c .before .before .before in let e = f .before in let k = e .before .before .before in let d = k .before in
-    rw (eq-eqb _ _ (d .before .before .if1 .left), yes (d .before .sound .ensures) (d .if2 .left), ← k .key-slot .ensures, lt-ltb _ _ (e .if3 .left), ne-eqb _ _ (c .before .if4 .left), ← f .find .ensures) (c .elsewhere .ensures)
+returns-2 : tie.Need-returns-2
+returns-2 c = let k = c .before in let t = k .before in
+    c .redirected .ensures ∙ sym (told (t .before .before) ∙ rw (t .enum-told .given .1, ← k .key-slot .ensures))
 
 pub route-spec : {M : Type 1} → statement M
 route-spec =
     tie.close
     (tie.spec
-    cast-if1
-    returns
-    sound-requires
-    returns-2
+    cast-entry
+    entry-requires
+    enum-known-check
+    refused-requires
+    enum-told
     key-slot-requires
-    cast-owner
-    mul-owner
-    shared-slice-read-owner
-    returns-3
-    find-requires
-    at-home-requires
-    returns-4
-    elsewhere-requires
-    returns-5)
+    redirected-requires
+    returns
+    returns-2)

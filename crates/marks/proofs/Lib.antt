@@ -1,0 +1,4 @@
+pub mod Loops
+pub mod Lists
+pub mod Kept
+pub mod Marked
