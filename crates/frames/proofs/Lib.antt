@@ -1,4 +1,2 @@
-pub mod Digits
-pub mod Bytes
-pub mod Writing
+pub mod Claims
 pub mod OneLine

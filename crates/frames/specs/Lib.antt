@@ -1,3 +1,2 @@
-pub mod Hex
 pub mod Frames
 pub mod Lines

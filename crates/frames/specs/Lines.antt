@@ -1,34 +1,25 @@
 -- The table of kinds once more, from a frame to its line: each row's bytes in order, as document 01 lists them.
 -- `OneLine` says that this and `frameOf` are inverse, so no line means two frames and nothing else is a frame.
 use mathlib.Core.Path.{_≡_}
-use mathlib.Core.Bool.{Bool, true, false, cond}
 use mathlib.Core.List.{List, [], _∷_, _++_}
 use mathlib.Core.Logic.{_⊎_}
-use Prim.Native.Nat.{ℕ, zero, suc, _+_, _/_, _%_, _^_, _<_}
+use Prim.Native.Nat.{ℕ, _^_, _<_}
 use lib.ListN.{length, getD}
-use lib.Dec.{ltb}
+use Rattle.hex.specs.Hex.{hex, bytesOf}
 use Rattle.state.specs.declared.Role.{Role}
 use Rattle.state.specs.declared.Role.the-variants.{Master, Replica}
-use Rattle.frames.specs.Frames.{frameOf, bitmapOf}
-use Rattle.frames.specs.declared.Frame.{Frame}
-use Rattle.frames.specs.declared.Frame.the-variants.{NotAFrame, Heartbeat, Report, Fail, Request, Ack, Probe, Tick}
 use Rattle.state.specs.declared.Verdict.{Verdict}
 use Rattle.state.specs.declared.Verdict.the-variants as verdict
 use Rattle.state.specs.declared.Echo.{Echo}
 use Rattle.state.specs.declared.Echo.the-variants.{Ping, Pong}
-
--- the digit of a value below 16, and the two digits of each byte
-unfoldable pub character : ℕ → ℕ
-character v = cond (ltb v 10) (v + 48) (v + 87)
-
-unfoldable pub hex : List ℕ → List ℕ
-hex [] = []
-hex (b ∷ bs) = character (b / 16) ∷ character (b % 16) ∷ hex bs
-
--- a number in n bytes, big endian
-unfoldable pub bytesOf : ℕ → ℕ → List ℕ
-bytesOf zero x = []
-bytesOf (suc n) x = bytesOf n (x / 256) ++ (x % 256 ∷ [])
+use Rattle.frames.specs.Frames.{layoutOf, frameOf, bitmapOf}
+use Rattle.frames.specs.declared.Header.{Header}
+use Rattle.frames.specs.declared.Kind.{Kind}
+use Rattle.frames.specs.declared.Kind.the-variants.{Heartbeat, Report, Fail, Request, Ack, Probe, Tick}
+use Rattle.frames.specs.declared.Layout.{Layout}
+use Rattle.frames.specs.declared.Layout.the-variants.{Short, Middle, Long}
+use Rattle.frames.specs.declared.Frame.{Frame}
+use Rattle.frames.specs.declared.Decoded.the-variants.{NotAFrame, Good}
 
 abbrev pub verdictByte : Verdict → ℕ
 verdictByte verdict.Fine = 0
@@ -39,66 +30,49 @@ abbrev pub echoByte : Echo → ℕ
 echoByte Ping = 0
 echoByte Pong = 1
 
-abbrev pub roleByte : Role → ℕ
-roleByte Master = 0
-roleByte (Replica followed) = 1
+-- a role in two bytes; a master's followed byte is 0
+abbrev pub roleBytes : Role → List ℕ
+roleBytes Master = 0 ∷ 0 ∷ []
+roleBytes (Replica followed) = 1 ∷ followed ∷ []
 
--- 0 if master
-abbrev pub followedByte : Role → ℕ
-followedByte Master = 0
-followedByte (Replica followed) = followed
+-- the first four bytes
+abbrev pub kindBytes : Kind → List ℕ
+kindBytes (Heartbeat sender role) = 1 ∷ sender ∷ roleBytes role
+kindBytes (Report reporter subject said) = 2 ∷ reporter ∷ subject ∷ verdictByte said ∷ []
+kindBytes (Fail sender subject) = 3 ∷ sender ∷ subject ∷ 0 ∷ []
+kindBytes (Request candidate) = 4 ∷ candidate ∷ 0 ∷ 0 ∷ []
+kindBytes (Ack voter candidate) = 5 ∷ voter ∷ candidate ∷ 0 ∷ []
+kindBytes (Probe subject echo) = 6 ∷ subject ∷ echoByte echo ∷ 0 ∷ []
+kindBytes Tick = 7 ∷ 0 ∷ 0 ∷ 0 ∷ []
 
--- the bytes of a frame and its bitmap
-abbrev pub bytes : Frame → List ℕ → List ℕ
-bytes NotAFrame bitmap = []
-bytes (Heartbeat sender role current config time) bitmap =
-    1 ∷ sender ∷ roleByte role ∷ followedByte role ∷ (bytesOf 8 current ++ (bytesOf 8 config ++ (bytesOf 8 time ++ bitmap)))
-bytes (Report reporter subject said time) bitmap = 2 ∷ reporter ∷ subject ∷ verdictByte said ∷ bytesOf 8 time
-bytes (Fail sender subject time) bitmap = 3 ∷ sender ∷ subject ∷ 0 ∷ bytesOf 8 time
-bytes (Request candidate current config time) bitmap =
-    4 ∷ candidate ∷ 0 ∷ 0 ∷ (bytesOf 8 current ++ (bytesOf 8 config ++ (bytesOf 8 time ++ bitmap)))
-bytes (Ack voter candidate epoch time) bitmap = 5 ∷ voter ∷ candidate ∷ 0 ∷ (bytesOf 8 epoch ++ bytesOf 8 time)
-bytes (Probe subject echo time) bitmap = 6 ∷ subject ∷ echoByte echo ∷ 0 ∷ bytesOf 8 time
-bytes (Tick time) bitmap = 7 ∷ 0 ∷ 0 ∷ 0 ∷ bytesOf 8 time
+-- what follows them
+abbrev pub restBytes : Layout → Header → List ℕ → List ℕ
+restBytes Short h bitmap = bytesOf 8 (h .time)
+restBytes Middle h bitmap = bytesOf 8 (h .epoch) ++ bytesOf 8 (h .time)
+restBytes Long h bitmap = bytesOf 8 (h .epoch) ++ (bytesOf 8 (h .config) ++ (bytesOf 8 (h .time) ++ bitmap))
 
 -- the line of a frame and its bitmap
 unfoldable pub encode : Frame → List ℕ → List ℕ
-encode frame bitmap = hex (bytes frame bitmap)
+encode f bitmap = hex (kindBytes (f .kind) ++ restBytes (layoutOf (f .kind)) (f .header) bitmap)
 
--- each number fits its field: one byte, eight bytes, a list of bytes
-abbrev pub Byte : ℕ → Type 0
-Byte b = b < 256
+-- each number fits its field, and an epoch that the kind does not carry is 0
+abbrev pub Bytes : List ℕ → Type 0
+Bytes bs = (k : ℕ) → getD bs k 0 < 256
 
-abbrev pub Long : ℕ → Type 0
-Long x = x < 256 ^ 8
+abbrev pub Number : ℕ → Type 0
+Number x = x < 256 ^ 8
 
-abbrev pub Bitmap : List ℕ → Type 0
-Bitmap m = (length m ≡ 2048) × ((k : ℕ) → Byte (getD m k 0))
+abbrev pub RestFits : Layout → Header → List ℕ → Type 0
+RestFits Short h m = Number (h .time) × (h .epoch ≡ 0) × (h .config ≡ 0)
+RestFits Middle h m = Number (h .epoch) × Number (h .time) × (h .config ≡ 0)
+RestFits Long h m = Number (h .epoch) × Number (h .config) × Number (h .time) × (length m ≡ 2048) × Bytes m
 
 abbrev pub Fits : Frame → List ℕ → Type 0
-Fits NotAFrame m = ⊥
-Fits (Heartbeat sender role current config time) m = Byte sender × Byte (followedByte role) × Long current × Long config × Long time × Bitmap m
-Fits (Report reporter subject said time) m = Byte reporter × Byte subject × Long time
-Fits (Fail sender subject time) m = Byte sender × Byte subject × Long time
-Fits (Request candidate current config time) m = Byte candidate × Long current × Long config × Long time × Bitmap m
-Fits (Ack voter candidate epoch time) m = Byte voter × Byte candidate × Long epoch × Long time
-Fits (Probe subject echo time) m = Byte subject × Long time
-Fits (Tick time) m = Long time
-
--- kinds 1 and 4 have a bitmap
-abbrev pub hasBitmap : Frame → Bool
-hasBitmap NotAFrame = false
-hasBitmap (Heartbeat sender role current config time) = true
-hasBitmap (Report reporter subject said time) = false
-hasBitmap (Fail sender subject time) = false
-hasBitmap (Request candidate current config time) = true
-hasBitmap (Ack voter candidate epoch time) = false
-hasBitmap (Probe subject echo time) = false
-hasBitmap (Tick time) = false
+Fits f m = Bytes (kindBytes (f .kind)) × RestFits (layoutOf (f .kind)) (f .header) m
 
 pub record OneLine : Type 0 where
   -- a frame's line reads as that frame, and its bitmap as that bitmap
-  pub read-back : (frame : Frame) (m : List ℕ) → Fits frame m → frameOf (encode frame m) ≡ frame
-  pub bitmap-back : (frame : Frame) (m : List ℕ) → Fits frame m → hasBitmap frame ≡ true → bitmapOf (encode frame m) ≡ m
+  pub read-back : (f : Frame) (m : List ℕ) → Fits f m → frameOf (encode f m) ≡ Good f
+  pub bitmap-back : (f : Frame) (m : List ℕ) → Fits f m → layoutOf (f .kind) ≡ Long → bitmapOf (encode f m) ≡ m
   -- a line is no frame, or it is the line of its frame and its bitmap, which fit
-  pub written-back : (line : List ℕ) → (frameOf line ≡ NotAFrame) ⊎ (Fits (frameOf line) (bitmapOf line) × (encode (frameOf line) (bitmapOf line) ≡ line))
+  pub written-back : (line : List ℕ) → (frameOf line ≡ NotAFrame) ⊎ ((f : Frame) × (frameOf line ≡ Good f) × Fits f (bitmapOf line) × (encode f (bitmapOf line) ≡ line))

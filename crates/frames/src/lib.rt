@@ -1,410 +1,289 @@
 // A line of hexadecimal digits, read as a frame: document 01, "Frames (house)".
 ghost use mathlib.Core.Path.{_≡_};
-ghost use Prim.Native.Nat.{ℕ, _+_, _*_, _≤_, _<_};
-ghost use lib.ListN.{length, getD};
-ghost use Rattle.tables.specs.Checks.{checked};
-ghost use Rattle.frames.specs.Hex.{isDigit, digit, Values, allDigits, byteAt, numberAt, bytesAt};
-ghost use Rattle.frames.specs.Frames.{rows, frameOf, bitmapOf};
-ghost use Rattle.frames.specs.declared.Frame.the-variants.{NotAFrame};
+ghost use Rattle.frames.specs.Frames.{kindOf, layoutOf, digitsOf, headerOf, framed, frameOf, bitmapOf};
+ghost use Rattle.frames.specs.declared.Listing.the-variants.{Listed};
 use state::Echo;
 use state::Role;
 use state::Verdict;
 
-// A case for each kind, with the receiver's time in each, and one for a line that is none.
-pub enum Frame {
-    NotAFrame,
+// What every frame carries: the receiver's time, and the epochs, 0 where the kind has none. Of an ack, its epoch; else the
+// sender's currentEpoch and configEpoch.
+pub struct Header {
+    pub time: u64,
+    pub epoch: u64,
+    pub config: u64,
+}
+
+// A case for each kind, with what is the kind's own.
+pub enum Kind {
     Heartbeat {
         sender: u8,
         role: Role,
-        current: u64,
-        config: u64,
-        time: u64,
     },
     Report {
         reporter: u8,
         subject: u8,
         verdict: Verdict,
-        time: u64,
     },
     Fail {
         sender: u8,
         subject: u8,
-        time: u64,
     },
     Request {
         candidate: u8,
-        current: u64,
-        config: u64,
-        time: u64,
     },
     Ack {
         voter: u8,
         candidate: u8,
-        epoch: u64,
-        time: u64,
     },
     Probe {
         subject: u8,
         echo: Echo,
-        time: u64,
     },
-    Tick {
-        time: u64,
-    },
+    Tick,
 }
 
-fn is_digit(c: u8) -> bool
-    ensures { λ r. ⌜ r ≡ isDigit c ⌝ }
-{
-    if c < 48 {
-        return false;
-    }
-    if c < 58 {
-        return true;
-    }
-    if c < 97 {
-        return false;
-    }
-    c < 103
+pub struct Frame {
+    pub header: Header,
+    pub kind: Kind,
 }
 
-// The value of a digit, 0 for any other character. 0 to 9 are 48 to 57, a to f are 97 to 102; one sum gives both without
-// a branch.
-fn value(c: u8) -> u8
-    ensures { λ r. ⌜ (r ≡ digit c) × (r < 16) ⌝ }
-{
-    if is_digit(c) {
-        return c % 16 + c / 64 * 9;
-    }
-    0
+// What a line is.
+pub enum Decoded {
+    NotAFrame,
+    Good(Frame),
 }
 
-// Each character is looked at, also after one that is no digit: with no way out of the loop, many are looked at at once.
-pub fn all_digits(line: &[u8]) -> bool
-    ensures { λ r. ⌜ r ≡ allDigits (now (line .entry)) ⌝ }
-{
-    let mut good = true;
-    let mut i: usize = 0;
-    while i < line.len() {
-        good = good & is_digit(line[i]);
-        i += 1;
-    }
-    good
+// What follows a kind's first four bytes: the time; an epoch and the time; both epochs, the time and the bitmap.
+pub enum Layout {
+    Short,
+    Middle,
+    Long,
 }
 
-// The value of the character at place k, 0 past the end.
-pub fn digit_at(line: &[u8], k: usize) -> u8
-    ensures { λ r. ⌜ (r ≡ digit (getD (now (line .entry)) k 0)) × (r < 16) ⌝ }
-{
-    if k < line.len() {
-        return value(line[k]);
-    }
-    0
-}
-
-// The byte at place i of a line.
-fn byte(line: &[u8], i: usize) -> u8
-    requires { ⌜ i < 4096 ⌝ }
-    ensures { λ r. ⌜ r ≡ byteAt (now (line .entry)) i ⌝ }
-{
-    let high = digit_at(line, 2 * i);
-    let low = digit_at(line, 2 * i + 1);
-    high * 16 + low
-}
-
-fn wide(x: u8) -> u64
-    ensures { λ r. ⌜ r ≡ x ⌝ }
-{
-    x as u64
-}
-
-// The number of eight bytes from place i on.
-fn number(line: &[u8], i: usize) -> u64
-    requires { ⌜ i < 4000 ⌝ }
-    ensures { λ r. ⌜ r ≡ numberAt (now (line .entry)) i 8 ⌝ }
-{
-    let mut n: u64 = 0;
-    let mut k: usize = 0;
-    while k < 8 {
-        n = n * 256 + wide(byte(line, i + k));
-        k += 1;
-    }
-    n
+// What the first four bytes say.
+enum Listing {
+    Unlisted,
+    Listed(Kind),
 }
 
 // A master's heartbeat has a followed byte of 0.
-fn heartbeat(line: &[u8]) -> Frame
-    requires { ⌜ byteAt (now line) 0 ≡ 1 ⌝ }
-    ensures { λ r. ⌜ r ≡ checked (λ f. f) (rows (now (line .entry))) NotAFrame ⌝ }
+fn heartbeat(sender: u8, role: u8, followed: u8) -> Listing
+    ensures { λ r. ⌜ r ≡ kindOf 1 sender role followed ⌝ }
 {
-    if line.len() != 4152 {
-        return Frame::NotAFrame;
-    }
-    let sender = byte(line, 1);
-    let role = byte(line, 2);
-    let followed = byte(line, 3);
-    let current = number(line, 4);
-    let config = number(line, 12);
-    let time = number(line, 20);
     if role == 1 {
-        return Frame::Heartbeat {
+        return Listing::Listed(Kind::Heartbeat {
             sender,
             role: Role::Replica(followed),
-            current,
-            config,
-            time,
-        };
+        });
     }
     if role != 0 {
-        return Frame::NotAFrame;
+        return Listing::Unlisted;
     }
     if followed != 0 {
-        return Frame::NotAFrame;
+        return Listing::Unlisted;
     }
-    Frame::Heartbeat {
+    Listing::Listed(Kind::Heartbeat {
         sender,
         role: Role::Master,
-        current,
-        config,
-        time,
-    }
+    })
 }
 
-fn report(line: &[u8]) -> Frame
-    requires { ⌜ byteAt (now line) 0 ≡ 2 ⌝ }
-    ensures { λ r. ⌜ r ≡ checked (λ f. f) (rows (now (line .entry))) NotAFrame ⌝ }
+fn report(reporter: u8, subject: u8, said: u8) -> Listing
+    ensures { λ r. ⌜ r ≡ kindOf 2 reporter subject said ⌝ }
 {
-    if line.len() != 24 {
-        return Frame::NotAFrame;
-    }
-    let reporter = byte(line, 1);
-    let subject = byte(line, 2);
-    let said = byte(line, 3);
-    let time = number(line, 4);
     if said == 0 {
-        return Frame::Report {
+        return Listing::Listed(Kind::Report {
             reporter,
             subject,
             verdict: Verdict::Fine,
-            time,
-        };
+        });
     }
     if said == 1 {
-        return Frame::Report {
+        return Listing::Listed(Kind::Report {
             reporter,
             subject,
             verdict: Verdict::Pfail,
-            time,
-        };
+        });
     }
     if said == 2 {
-        return Frame::Report {
+        return Listing::Listed(Kind::Report {
             reporter,
             subject,
             verdict: Verdict::Fail,
-            time,
-        };
+        });
     }
-    Frame::NotAFrame
+    Listing::Unlisted
 }
 
-fn fail(line: &[u8]) -> Frame
-    requires { ⌜ byteAt (now line) 0 ≡ 3 ⌝ }
-    ensures { λ r. ⌜ r ≡ checked (λ f. f) (rows (now (line .entry))) NotAFrame ⌝ }
+fn fail(sender: u8, subject: u8, zero: u8) -> Listing
+    ensures { λ r. ⌜ r ≡ kindOf 3 sender subject zero ⌝ }
 {
-    if line.len() != 24 {
-        return Frame::NotAFrame;
+    if zero != 0 {
+        return Listing::Unlisted;
     }
-    let sender = byte(line, 1);
-    let subject = byte(line, 2);
-    let time = number(line, 4);
-    if byte(line, 3) != 0 {
-        return Frame::NotAFrame;
-    }
-    Frame::Fail {
-        sender,
-        subject,
-        time,
-    }
+    Listing::Listed(Kind::Fail { sender, subject })
 }
 
-fn request(line: &[u8]) -> Frame
-    requires { ⌜ byteAt (now line) 0 ≡ 4 ⌝ }
-    ensures { λ r. ⌜ r ≡ checked (λ f. f) (rows (now (line .entry))) NotAFrame ⌝ }
+fn request(candidate: u8, zero: u8, last: u8) -> Listing
+    ensures { λ r. ⌜ r ≡ kindOf 4 candidate zero last ⌝ }
 {
-    if line.len() != 4152 {
-        return Frame::NotAFrame;
+    if zero != 0 {
+        return Listing::Unlisted;
     }
-    let candidate = byte(line, 1);
-    let current = number(line, 4);
-    let config = number(line, 12);
-    let time = number(line, 20);
-    if byte(line, 2) != 0 {
-        return Frame::NotAFrame;
+    if last != 0 {
+        return Listing::Unlisted;
     }
-    if byte(line, 3) != 0 {
-        return Frame::NotAFrame;
-    }
-    Frame::Request {
-        candidate,
-        current,
-        config,
-        time,
-    }
+    Listing::Listed(Kind::Request { candidate })
 }
 
-fn ack(line: &[u8]) -> Frame
-    requires { ⌜ byteAt (now line) 0 ≡ 5 ⌝ }
-    ensures { λ r. ⌜ r ≡ checked (λ f. f) (rows (now (line .entry))) NotAFrame ⌝ }
+fn ack(voter: u8, candidate: u8, zero: u8) -> Listing
+    ensures { λ r. ⌜ r ≡ kindOf 5 voter candidate zero ⌝ }
 {
-    if line.len() != 40 {
-        return Frame::NotAFrame;
+    if zero != 0 {
+        return Listing::Unlisted;
     }
-    let voter = byte(line, 1);
-    let candidate = byte(line, 2);
-    let epoch = number(line, 4);
-    let time = number(line, 12);
-    if byte(line, 3) != 0 {
-        return Frame::NotAFrame;
-    }
-    Frame::Ack {
-        voter,
-        candidate,
-        epoch,
-        time,
-    }
+    Listing::Listed(Kind::Ack { voter, candidate })
 }
 
-fn probe(line: &[u8]) -> Frame
-    requires { ⌜ byteAt (now line) 0 ≡ 6 ⌝ }
-    ensures { λ r. ⌜ r ≡ checked (λ f. f) (rows (now (line .entry))) NotAFrame ⌝ }
+fn probe(subject: u8, came: u8, zero: u8) -> Listing
+    ensures { λ r. ⌜ r ≡ kindOf 6 subject came zero ⌝ }
 {
-    if line.len() != 24 {
-        return Frame::NotAFrame;
-    }
-    let subject = byte(line, 1);
-    let came = byte(line, 2);
-    let time = number(line, 4);
-    if byte(line, 3) != 0 {
-        return Frame::NotAFrame;
+    if zero != 0 {
+        return Listing::Unlisted;
     }
     if came == 0 {
-        return Frame::Probe {
+        return Listing::Listed(Kind::Probe {
             subject,
             echo: Echo::Ping,
-            time,
-        };
+        });
     }
     if came == 1 {
-        return Frame::Probe {
+        return Listing::Listed(Kind::Probe {
             subject,
             echo: Echo::Pong,
-            time,
-        };
+        });
     }
-    Frame::NotAFrame
+    Listing::Unlisted
 }
 
-fn tick(line: &[u8]) -> Frame
-    requires { ⌜ byteAt (now line) 0 ≡ 7 ⌝ }
-    ensures { λ r. ⌜ r ≡ checked (λ f. f) (rows (now (line .entry))) NotAFrame ⌝ }
+fn tick(first: u8, second: u8, third: u8) -> Listing
+    ensures { λ r. ⌜ r ≡ kindOf 7 first second third ⌝ }
 {
-    if line.len() != 24 {
-        return Frame::NotAFrame;
+    if first != 0 {
+        return Listing::Unlisted;
     }
-    let time = number(line, 4);
-    if byte(line, 1) != 0 {
-        return Frame::NotAFrame;
+    if second != 0 {
+        return Listing::Unlisted;
     }
-    if byte(line, 2) != 0 {
-        return Frame::NotAFrame;
+    if third != 0 {
+        return Listing::Unlisted;
     }
-    if byte(line, 3) != 0 {
-        return Frame::NotAFrame;
-    }
-    Frame::Tick { time }
+    Listing::Listed(Kind::Tick)
 }
 
-// The row of the table that a line of digits meets.
-fn row(line: &[u8]) -> Frame
-    ensures { λ r. ⌜ r ≡ checked (λ f. f) (rows (now (line .entry))) NotAFrame ⌝ }
+// The row of the table that a line's first four bytes meet.
+fn row(kind: u8, x: u8, y: u8, z: u8) -> Listing
+    ensures { λ r. ⌜ r ≡ kindOf kind x y z ⌝ }
 {
-    let kind = byte(line, 0);
     if kind == 1 {
-        return heartbeat(line);
+        return heartbeat(x, y, z);
     }
     if kind == 2 {
-        return report(line);
+        return report(x, y, z);
     }
     if kind == 3 {
-        return fail(line);
+        return fail(x, y, z);
     }
     if kind == 4 {
-        return request(line);
+        return request(x, y, z);
     }
     if kind == 5 {
-        return ack(line);
+        return ack(x, y, z);
     }
     if kind == 6 {
-        return probe(line);
+        return probe(x, y, z);
     }
     if kind == 7 {
-        return tick(line);
+        return tick(x, y, z);
     }
-    Frame::NotAFrame
+    Listing::Unlisted
+}
+
+pub fn layout_of(kind: Kind) -> Layout
+    ensures { λ r. ⌜ r ≡ layoutOf kind ⌝ }
+{
+    match kind {
+        Kind::Heartbeat { .. } => Layout::Long,
+        Kind::Report { .. } => Layout::Short,
+        Kind::Fail { .. } => Layout::Short,
+        Kind::Request { .. } => Layout::Long,
+        Kind::Ack { .. } => Layout::Middle,
+        Kind::Probe { .. } => Layout::Short,
+        Kind::Tick => Layout::Short,
+    }
+}
+
+fn digits_of(layout: Layout) -> usize
+    ensures { λ r. ⌜ r ≡ digitsOf layout ⌝ }
+{
+    match layout {
+        Layout::Short => 24,
+        Layout::Middle => 40,
+        Layout::Long => 4152,
+    }
+}
+
+fn header_of(layout: Layout, line: &[u8]) -> Header
+    ensures { λ r. ⌜ r ≡ headerOf layout (now (line .entry)) ⌝ }
+{
+    match layout {
+        Layout::Short => Header {
+            time: hex::number_at(line, 4),
+            epoch: 0,
+            config: 0,
+        },
+        Layout::Middle => Header {
+            time: hex::number_at(line, 12),
+            epoch: hex::number_at(line, 4),
+            config: 0,
+        },
+        Layout::Long => Header {
+            time: hex::number_at(line, 20),
+            epoch: hex::number_at(line, 4),
+            config: hex::number_at(line, 12),
+        },
+    }
+}
+
+// The kind's length looked at, and its header read.
+fn whole(line: &[u8], kind: Kind) -> Decoded
+    ensures { λ r. ⌜ r ≡ framed (now (line .entry)) (Listed kind) ⌝ }
+{
+    let layout = layout_of(kind);
+    if line.len() != digits_of(layout) {
+        return Decoded::NotAFrame;
+    }
+    let header = header_of(layout, line);
+    Decoded::Good(Frame { header, kind })
 }
 
 // The frame that a line is, without its newline.
-pub fn decode(line: &[u8]) -> Frame
+pub fn decode(line: &[u8]) -> Decoded
     ensures { λ r. ⌜ r ≡ frameOf (now (line .entry)) ⌝ }
 {
-    if all_digits(line) {
-        return row(line);
+    if hex::all_digits(line) {} else {
+        return Decoded::NotAFrame;
     }
-    Frame::NotAFrame
-}
-
-// The value of every character, for a long line.
-fn values() -> [u8; 256]
-    ensures { λ r. ⌜ Values r ⌝ }
-{
-    let mut values = [0u8; 256];
-    let mut i: usize = 0;
-    while i < 256 {
-        values[i] = value(i as u8);
-        i += 1;
-    }
-    values
-}
-
-fn look_up(values: &[u8; 256], c: u8) -> u8
-    requires { ⌜ Values (now values) ⌝ }
-    ensures { λ r. ⌜ (r ≡ digit c) × (r < 16) ⌝ }
-{
-    values[c as usize]
-}
-
-// The bytes from place 28 on of a line that has them all.
-fn fill(values: &[u8; 256], line: &[u8], out: &mut [u8])
-    requires { ⌜ Values (now values) × (56 + 2 * length (now out) ≤ length (now line)) ⌝ }
-    ensures { λ _. ⌜ now (out .exit) ≡ bytesAt (now (line .entry)) 28 (length (now (out .entry))) ⌝ }
-{
-    let mut i: usize = 0;
-    while i < out.len() {
-        out[i] = look_up(values, line[56 + 2 * i]) * 16 + look_up(values, line[57 + 2 * i]);
-        i += 1;
-    }
-}
-
-// The bytes from place 28 on of a line that may end before them.
-fn fill_short(line: &[u8], out: &mut [u8])
-    requires { ⌜ length (now out) ≡ 2048 ⌝ }
-    ensures { λ _. ⌜ now (out .exit) ≡ bytesAt (now (line .entry)) 28 (length (now (out .entry))) ⌝ }
-{
-    let mut i: usize = 0;
-    while i < out.len() {
-        out[i] = byte(line, 28 + i);
-        i += 1;
+    let listing = row(
+        hex::byte_at(line, 0),
+        hex::byte_at(line, 1),
+        hex::byte_at(line, 2),
+        hex::byte_at(line, 3),
+    );
+    match listing {
+        Listing::Unlisted => Decoded::NotAFrame,
+        Listing::Listed(kind) => whole(line, kind),
     }
 }
 
@@ -412,10 +291,5 @@ fn fill_short(line: &[u8], out: &mut [u8])
 pub fn bitmap(line: &[u8], out: &mut [u8; 2048])
     ensures { λ _. ⌜ now (out .exit) ≡ bitmapOf (now (line .entry)) ⌝ }
 {
-    if 4152 <= line.len() {
-        let values = values();
-        fill(&values, line, out);
-    } else {
-        fill_short(line, out);
-    }
+    hex::bytes_at(line, 28, out);
 }

@@ -1,244 +1,217 @@
 // What a frame is turned away for: the checks 1 to 8 of document 01, in their order.
 ghost use mathlib.Core.Path.{_≡_};
-ghost use mathlib.Core.List.{List, [], _∷_};
 ghost use lib.Dec.{eqb, leb};
-ghost use Rattle.tables.specs.Checks.{anyOf};
-ghost use Rattle.refusals.specs.Refusals.{timeOf, epochOf, configOf, some, follows, isNoFrame, isUnlisted, followsItself, namesThisNode, isBeyond, frameRefusal, refusal};
+ghost use Rattle.state.specs.declared.Role.the-variants.{Master};
+ghost use Rattle.frames.specs.declared.Kind.the-variants.{Heartbeat, Fail};
+ghost use Rattle.frames.specs.declared.Decoded.the-variants.{Good};
+ghost use Rattle.refusals.specs.Refusals.{named, some, same, isBeyond, bothLong, frameRefusal, refusal};
 use answers::Answer;
 use answers::Check;
+use frames::Decoded;
 use frames::Frame;
+use frames::Header;
+use frames::Kind;
 use state::Node;
 use state::Role;
 
-// The receiver's time.
-pub fn time_of(frame: Frame) -> u64
-    ensures { λ r. ⌜ r ≡ timeOf frame ⌝ }
+// Up to two node numbers.
+pub enum Numbers {
+    Nobody,
+    One(u8),
+    Two(u8, u8),
+}
+
+// What a kind names: who must be in the roster, a replica and whom it follows, who may not be this node, and a reporter with
+// its subject.
+pub struct Naming {
+    pub listed: Numbers,
+    pub follower: Numbers,
+    pub others: Numbers,
+    pub reporter: Numbers,
+}
+
+// A kind that names one node, which may not be this one; a master's heartbeat is such.
+fn one(number: u8) -> Naming
+    ensures { λ r. ⌜ r ≡ named (Heartbeat number Master) ⌝ }
 {
-    match frame {
-        Frame::NotAFrame => 0,
-        Frame::Heartbeat { time, .. } => time,
-        Frame::Report { time, .. } => time,
-        Frame::Fail { time, .. } => time,
-        Frame::Request { time, .. } => time,
-        Frame::Ack { time, .. } => time,
-        Frame::Probe { time, .. } => time,
-        Frame::Tick { time } => time,
+    Naming {
+        listed: Numbers::One(number),
+        follower: Numbers::Nobody,
+        others: Numbers::One(number),
+        reporter: Numbers::Nobody,
     }
 }
 
-// The epoch to which currentEpoch rises.
-pub fn epoch_of(frame: Frame) -> u64
-    ensures { λ r. ⌜ r ≡ epochOf frame ⌝ }
+// A kind that names two nodes, of which neither may be this one; a fail frame is such.
+fn two(first: u8, second: u8) -> Naming
+    ensures { λ r. ⌜ r ≡ named (Fail first second) ⌝ }
 {
-    match frame {
-        Frame::NotAFrame => 0,
-        Frame::Heartbeat { current, .. } => current,
-        Frame::Report { .. } => 0,
-        Frame::Fail { .. } => 0,
-        Frame::Request { current, .. } => current,
-        Frame::Ack { epoch, .. } => epoch,
-        Frame::Probe { .. } => 0,
-        Frame::Tick { .. } => 0,
+    Naming {
+        listed: Numbers::Two(first, second),
+        follower: Numbers::Nobody,
+        others: Numbers::Two(first, second),
+        reporter: Numbers::Nobody,
     }
 }
 
-fn config_of(frame: Frame) -> u64
-    ensures { λ r. ⌜ r ≡ configOf frame ⌝ }
-{
-    match frame {
-        Frame::NotAFrame => 0,
-        Frame::Heartbeat { config, .. } => config,
-        Frame::Report { .. } => 0,
-        Frame::Fail { .. } => 0,
-        Frame::Request { config, .. } => config,
-        Frame::Ack { .. } => 0,
-        Frame::Probe { .. } => 0,
-        Frame::Tick { .. } => 0,
-    }
-}
-
-// 2
-fn is_no_frame(frame: Frame) -> bool
-    ensures { λ r. ⌜ r ≡ isNoFrame frame ⌝ }
-{
-    match frame {
-        Frame::NotAFrame => true,
-        Frame::Heartbeat { .. } => false,
-        Frame::Report { .. } => false,
-        Frame::Fail { .. } => false,
-        Frame::Request { .. } => false,
-        Frame::Ack { .. } => false,
-        Frame::Probe { .. } => false,
-        Frame::Tick { .. } => false,
-    }
-}
-
-// One of two numbers is past a roster of that size.
-fn either_past(size: u16, a: u8, b: u8) -> bool
-    ensures { λ r. ⌜ r ≡ some (leb size) (a ∷ b ∷ []) ⌝ }
-{
-    if size <= a as u16 {
-        return true;
-    }
-    size <= b as u16
-}
-
-fn sender_past(size: u16, sender: u8, role: Role) -> bool
-    ensures { λ r. ⌜ r ≡ some (leb size) (sender ∷ follows role) ⌝ }
+fn heard(sender: u8, role: Role) -> Naming
+    ensures { λ r. ⌜ r ≡ named (Heartbeat sender role) ⌝ }
 {
     match role {
-        Role::Master => size <= sender as u16,
-        Role::Replica(master) => either_past(size, sender, master),
-    }
-}
-
-// 3
-fn is_unlisted(size: u16, frame: Frame) -> bool
-    ensures { λ r. ⌜ r ≡ isUnlisted size frame ⌝ }
-{
-    match frame {
-        Frame::NotAFrame => false,
-        Frame::Heartbeat { sender, role, .. } => sender_past(size, sender, role),
-        Frame::Report {
-            reporter,
-            subject,
-            ..
-        } => either_past(size, reporter, subject),
-        Frame::Fail {
-            sender,
-            subject,
-            ..
-        } => either_past(size, sender, subject),
-        Frame::Request { candidate, .. } => size <= candidate as u16,
-        Frame::Ack {
-            voter,
-            candidate,
-            ..
-        } => either_past(size, voter, candidate),
-        Frame::Probe { subject, .. } => size <= subject as u16,
-        Frame::Tick { .. } => false,
-    }
-}
-
-// 8
-fn follows_itself(frame: Frame) -> bool
-    ensures { λ r. ⌜ r ≡ followsItself frame ⌝ }
-{
-    match frame {
-        Frame::NotAFrame => false,
-        Frame::Heartbeat { sender, role, .. } => match role {
-            Role::Master => false,
-            Role::Replica(master) => sender == master,
+        Role::Master => one(sender),
+        Role::Replica(master) => Naming {
+            listed: Numbers::Two(sender, master),
+            follower: Numbers::Two(sender, master),
+            others: Numbers::One(sender),
+            reporter: Numbers::Nobody,
         },
-        Frame::Report { .. } => false,
-        Frame::Fail { .. } => false,
-        Frame::Request { .. } => false,
-        Frame::Ack { .. } => false,
-        Frame::Probe { .. } => false,
-        Frame::Tick { .. } => false,
     }
 }
 
-fn either_is(me: u16, a: u8, b: u8) -> bool
-    ensures { λ r. ⌜ r ≡ anyOf (eqb me a ∷ eqb me b ∷ []) ⌝ }
+// What a kind names.
+pub fn named(kind: Kind) -> Naming
+    ensures { λ r. ⌜ r ≡ named kind ⌝ }
 {
-    if me == a as u16 {
-        return true;
-    }
-    me == b as u16
-}
-
-fn report_names(me: u16, reporter: u8, subject: u8) -> bool
-    ensures { λ r. ⌜ r ≡ anyOf (eqb me reporter ∷ eqb me subject ∷ eqb reporter subject ∷ []) ⌝ }
-{
-    if me == reporter as u16 {
-        return true;
-    }
-    if me == subject as u16 {
-        return true;
-    }
-    reporter == subject
-}
-
-// 6
-fn names_this_node(me: u16, frame: Frame) -> bool
-    ensures { λ r. ⌜ r ≡ namesThisNode me frame ⌝ }
-{
-    match frame {
-        Frame::NotAFrame => false,
-        Frame::Heartbeat { sender, .. } => me == sender as u16,
-        Frame::Report {
+    match kind {
+        Kind::Heartbeat { sender, role } => heard(sender, role),
+        Kind::Report {
             reporter,
             subject,
             ..
-        } => report_names(me, reporter, subject),
-        Frame::Fail {
-            sender,
-            subject,
-            ..
-        } => either_is(me, sender, subject),
-        Frame::Request { candidate, .. } => me == candidate as u16,
-        Frame::Ack { voter, .. } => me == voter as u16,
-        Frame::Probe { subject, .. } => me == subject as u16,
-        Frame::Tick { .. } => false,
+        } => Naming {
+            listed: Numbers::Two(reporter, subject),
+            follower: Numbers::Nobody,
+            others: Numbers::Two(reporter, subject),
+            reporter: Numbers::Two(reporter, subject),
+        },
+        Kind::Fail { sender, subject } => two(sender, subject),
+        Kind::Request { candidate } => one(candidate),
+        Kind::Ack { voter, candidate } => Naming {
+            listed: Numbers::Two(voter, candidate),
+            follower: Numbers::Nobody,
+            others: Numbers::One(voter),
+            reporter: Numbers::Nobody,
+        },
+        Kind::Probe { subject, .. } => one(subject),
+        Kind::Tick => Naming {
+            listed: Numbers::Nobody,
+            follower: Numbers::Nobody,
+            others: Numbers::Nobody,
+            reporter: Numbers::Nobody,
+        },
+    }
+}
+
+// One of the numbers is past a roster of that size.
+fn some_past(size: u16, numbers: Numbers) -> bool
+    ensures { λ r. ⌜ r ≡ some (leb size) numbers ⌝ }
+{
+    match numbers {
+        Numbers::Nobody => false,
+        Numbers::One(number) => size <= number as u16,
+        Numbers::Two(first, second) => {
+            if size <= first as u16 {
+                return true;
+            }
+            size <= second as u16
+        }
+    }
+}
+
+// One of the numbers is this node's.
+fn some_own(me: u16, numbers: Numbers) -> bool
+    ensures { λ r. ⌜ r ≡ some (eqb me) numbers ⌝ }
+{
+    match numbers {
+        Numbers::Nobody => false,
+        Numbers::One(number) => me == number as u16,
+        Numbers::Two(first, second) => {
+            if me == first as u16 {
+                return true;
+            }
+            me == second as u16
+        }
+    }
+}
+
+fn same(numbers: Numbers) -> bool
+    ensures { λ r. ⌜ r ≡ same numbers ⌝ }
+{
+    match numbers {
+        Numbers::Nobody => false,
+        Numbers::One(_) => false,
+        Numbers::Two(first, second) => first == second,
     }
 }
 
 // 5
-fn is_beyond(frame: Frame) -> bool
-    ensures { λ r. ⌜ r ≡ isBeyond frame ⌝ }
+fn is_beyond(header: Header) -> bool
+    ensures { λ r. ⌜ r ≡ isBeyond header ⌝ }
 {
-    let epoch = epoch_of(frame);
-    let config = config_of(frame);
-    if 9223372036854775807 < epoch {
+    if tables::TOP < header.epoch {
         return true;
     }
-    if 9223372036854775807 < config {
+    if tables::TOP < header.config {
         return true;
     }
-    if epoch < config {
+    if header.epoch < header.config {
         return true;
     }
-    281474976710656 <= time_of(frame)
+    tables::TIME_END <= header.time
 }
 
-// The checks on the frame itself, past 1 and 7.
+// The checks on the frame itself, past 1, 7 and 2.
 fn frame_refusal(node: Node, frame: Frame) -> Check
-    ensures { λ r. ⌜ r ≡ frameRefusal node frame ⌝ }
+    ensures { λ r. ⌜ r ≡ frameRefusal node (Good frame) ⌝ }
 {
-    if is_no_frame(frame) {
-        return Check::Refused(Answer::NotAFrame);
-    }
-    if is_unlisted(node.size, frame) {
+    let header = frame.header;
+    let kind = frame.kind;
+    let names = named(kind);
+    let listed = names.listed;
+    if some_past(node.size, listed) {
         return Check::Refused(Answer::UnknownNode);
     }
-    if follows_itself(frame) {
+    let follower = names.follower;
+    if same(follower) {
         return Check::Refused(Answer::FollowsItself);
     }
-    if names_this_node(node.me, frame) {
+    let others = names.others;
+    if some_own(node.me, others) {
         return Check::Refused(Answer::OwnNumber);
     }
-    if is_beyond(frame) {
+    let reporter = names.reporter;
+    if same(reporter) {
+        return Check::Refused(Answer::OwnNumber);
+    }
+    if is_beyond(header) {
         return Check::Refused(Answer::OutOfBounds);
     }
-    if time_of(frame) < node.clock {
+    if header.time < node.clock {
         return Check::Refused(Answer::BeforeClock);
     }
     Check::Passed
 }
 
-// The first check that applies, by the lengths of the two tables lent, the node and the frame.
-pub fn refusal(node: Node, slots: usize, reports: usize, frame: Frame) -> Check
-    ensures { λ r. ⌜ r ≡ refusal node slots reports frame ⌝ }
+// Whether both tables lent have their lengths.
+fn both_long(slots: usize, reports: usize) -> bool
+    ensures { λ r. ⌜ r ≡ bothLong slots reports ⌝ }
 {
-    if slots != 16384 {
-        return Check::Refused(Answer::WrongLength);
+    if slots != tables::SLOTS as usize {
+        return false;
     }
-    if reports != 4096 {
-        return Check::Refused(Answer::WrongLength);
+    reports == tables::REPORTS
+}
+
+// The first check that applies, by the lengths of the two tables lent, the node and what the line is.
+pub fn refusal(node: Node, slots: usize, reports: usize, line: Decoded) -> Check
+    ensures { λ r. ⌜ r ≡ refusal node slots reports line ⌝ }
+{
+    let check = soundness::entry(node, both_long(slots, reports));
+    match check {
+        Check::Refused(answer) => Check::Refused(answer),
+        Check::Passed => match line {
+            Decoded::NotAFrame => Check::Refused(Answer::NotAFrame),
+            Decoded::Good(frame) => frame_refusal(node, frame),
+        },
     }
-    if !soundness::sound(node) {
-        return Check::Refused(Answer::Unsound);
-    }
-    frame_refusal(node, frame)
 }

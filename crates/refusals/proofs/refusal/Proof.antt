@@ -1,33 +1,53 @@
 -- `refusals::refusal` meets its contract.
-use borrow.Author.Tests.{ne-eqb}
-use Rattle.refusals.specs.Refusals.{refusals}
+use mathlib.Core.Path.{sym, _∙_}
+use Rattle.refusals.specs.Refusals.{frameRefusals}
+use Rattle.refusals.proofs.Admitted.{by-entry}
 use borrow.Author.Needs.{needs}
 use Rattle.refusals.proofs.refusal.Statement.{statement}
 use Rattle.refusals.proofs.refusal.Tie as tie
 
-returns : tie.Need-returns
-unfolding refusals
-returns c = simp (ne-eqb _ _ (c .if1 .taken))
+both-long-requires : tie.Need-both-long-requires
+both-long-requires c κs = search needs
 
-returns-2 : tie.Need-returns-2
-unfolding refusals
-returns-2 c = simp (ne-eqb _ _ (c .if2 .taken), c .before .if1 .left)
+entry-requires : tie.Need-entry-requires
+entry-requires c κs = search needs
 
-sound-requires : tie.Need-sound-requires
-sound-requires c κs = search needs
+enum-known-check : tie.Need-enum-known-check
+enum-known-check c = search needs
 
-returns-3 : tie.Need-returns-3
-unfolding refusals
-returns-3 c = simp (c .if3 .taken, ← c .before .sound .ensures, c .before .before .if2 .left, c .before .before .before .if1 .left)
+enum-told : tie.Need-enum-told
+enum-told c = search needs
+
+enum-told-2 : tie.Need-enum-told-2
+enum-told-2 c = search needs
+
+enum-known-line : tie.Need-enum-known-line
+enum-known-line c = search needs
 
 frame-refusal-requires : tie.Need-frame-refusal-requires
 frame-refusal-requires c κs = search needs
 
-returns-4 : tie.Need-returns-4
-unfolding refusals
-returns-4 c = simp (← c .frame-refusal .ensures, c .before .if3 .left, ← c .before .before .sound .ensures, c .before .before .before .if2 .left, c .before .before .before .before .if1 .left)
+returns : tie.Need-returns
+returns c = sym (by-entry _ _ _ _ ∙ rw (← c .before .before .before .before .both-long .ensures, ← c .before .before .before .entry .ensures, c .before .check .given .1))
+
+returns-2 : tie.Need-returns-2
+unfolding frameRefusals
+returns-2 c = sym (by-entry _ _ _ _ ∙ rw (← c .before .before .before .before .before .both-long .ensures, ← c .before .before .before .before .entry .ensures, c .before .before .enum-told .given .1, c .enum-told2 .given .1))
+
+returns-3 : tie.Need-returns-3
+returns-3 c = c .frame-refusal .ensures ∙ sym (by-entry _ _ _ _ ∙ rw (← c .before .before .before .before .before .before .before .both-long .ensures, ← c .before .before .before .before .before .before .entry .ensures, c .before .before .before .before .enum-told .given .1, c .before .before .line .given .1))
 
 pub refusal-spec : {M : Type 1} → statement M
 refusal-spec =
     tie.close
-    (tie.spec returns returns-2 sound-requires returns-3 frame-refusal-requires returns-4)
+    (tie.spec
+    both-long-requires
+    entry-requires
+    enum-known-check
+    enum-told
+    enum-told-2
+    enum-known-line
+    frame-refusal-requires
+    returns
+    returns-2
+    returns-3)

@@ -1,0 +1,4 @@
+pub mod Digits
+pub mod Bytes
+pub mod Writing
+pub mod Over
