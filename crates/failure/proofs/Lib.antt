@@ -1,4 +1,4 @@
-pub mod Laws
+pub mod Records
 pub mod Keeps
+pub mod Masters
 pub mod Sound
-pub mod Ticks

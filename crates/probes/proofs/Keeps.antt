@@ -1,0 +1,77 @@
+-- What probes and ticks leave as it was: `probes-keep` and `probes-change`.
+use mathlib.Core.Path.{_≡_, refl}
+use mathlib.Core.List.{List}
+use Prim.Native.Nat.{ℕ, _≤_}
+use lib.ListN.{length}
+use Rattle.tables.specs.Below.{inTurn}
+use Rattle.tables.proofs.Below.{in-turn-keeps}
+use Rattle.nodesets.specs.declared.NodeSet.{NodeSet}
+use Rattle.state.specs.Node.{recordAt, masters}
+use Rattle.state.specs.Changes.{withFlag}
+use Rattle.state.specs.declared.Node.{Node}
+use Rattle.state.specs.declared.Echo.{Echo}
+use Rattle.state.specs.declared.Echo.the-variants.{Ping, Pong}
+use Rattle.failure.specs.Failure.{lookedAt}
+use Rattle.failure.specs.Keeps.{Kept, PingsOnly, FlagsOnly, OthersKept}
+use Rattle.failure.proofs.Records.{record-out}
+use Rattle.failure.proofs.Keeps.{only-one, others-one, flag-set, flags-same, flags-then, flags-kept, looked-flags}
+use Rattle.probes.specs.Probes.{afterProbe, probed, flagIfUnanswered, suspected, allSuspected, allLookedAt, ticked}
+use Rattle.probes.specs.Keeps.{ProbesKeep, ProbesChange}
+
+-- ---- one node
+
+probed-kept : (n : Node) (slots : List ℕ) (s : ℕ) (echo : Echo) → Kept n (probed n slots s echo)
+unfolding probed afterProbe
+probed-kept n slots s Ping = only-one _ (λ r. refl) n s _ refl
+probed-kept n slots s Pong = only-one _ (λ r. refl) n s _ refl
+
+pinged : (n : Node) (slots : List ℕ) (s : ℕ) → PingsOnly n (probed n slots s Ping)
+unfolding probed afterProbe
+pinged n slots s = only-one _ (λ r. refl) n s _ refl
+
+probed-others : (n : Node) (slots : List ℕ) (s : ℕ) (echo : Echo) → OthersKept s n (probed n slots s echo)
+unfolding probed
+probed-others n slots s echo = others-one n s (afterProbe n slots s echo (recordAt n s))
+
+pub suspected-flags : (k : ℕ) (n : Node) → FlagsOnly n (suspected k n)
+unfolding suspected
+suspected-flags k n = flag-set n k (flagIfUnanswered n k (recordAt n k))
+
+pub suspected-others : (k : ℕ) (n : Node) → OthersKept k n (suspected k n)
+unfolding suspected
+suspected-others k n = others-one n k (withFlag (flagIfUnanswered n k (recordAt n k)) (recordAt n k))
+
+pub suspected-out : (k : ℕ) (n : Node) → length (n .records) ≤ k → suspected k n ≡ n
+unfolding suspected
+suspected-out k n l = record-out n k (withFlag (flagIfUnanswered n k (recordAt n k)) (recordAt n k)) l
+
+-- ---- one node after another
+
+pub turns : (f : ℕ → Node → Node) → ((k : ℕ) (x : Node) → FlagsOnly x (f k x)) → (n : Node) (m : ℕ) → FlagsOnly n (inTurn f m n)
+turns f flags n m = in-turn-keeps (FlagsOnly n) f m n (λ k x l g. flags-then n x (f k x) g (flags k x)) (flags-same n)
+
+pub all-suspected : (n : Node) → FlagsOnly n (allSuspected n)
+unfolding allSuspected
+all-suspected n = turns suspected suspected-flags n (n .size)
+
+all-looked : (masters : NodeSet) (reports : List ℕ) (n : Node) → FlagsOnly n (allLookedAt masters reports n)
+unfolding allLookedAt
+all-looked masters reports n = turns (lookedAt masters reports) (looked-flags masters reports) n (n .size)
+
+ticked-flags : (n : Node) (reports : List ℕ) → FlagsOnly n (ticked n reports)
+unfolding ticked
+ticked-flags n reports =
+    let m = allSuspected n in
+    flags-then n m (allLookedAt (masters n) reports m) (all-suspected n) (all-looked (masters n) reports m)
+
+-- ---- together
+
+pub probes-keep : (n : Node) → ProbesKeep n
+probes-keep n = record { probe = probed-kept n; tick = λ reports. flags-kept n (ticked n reports) (ticked-flags n reports) }
+
+pub probes-change : (n : Node) → ProbesChange n
+probes-change n = record {
+  ping = λ slots s. (pinged n slots s, probed-others n slots s Ping);
+  pong = λ slots s. probed-others n slots s Pong;
+  tick = ticked-flags n;
+}
