@@ -2,7 +2,7 @@
 use mathlib.Core.Path.{_≡_, refl, sym, ap, _∙_}
 use mathlib.Core.Bool.{Bool, true, false, cond}
 use mathlib.Core.List.{List}
-use Prim.Native.Nat.{ℕ, _-_, _*_, _≤_, _<_}
+use Prim.Native.Nat.{ℕ, _*_, _≤_, _<_}
 use native.Mathlib.Nat.{zero-add}
 use native.Mathlib.Omega.{arith}
 use lib.Dec.{T, ltb}
@@ -11,7 +11,7 @@ use borrow.Author.Tests.{ltb-true, ltb-false, leb-false, lt-ltb, le-ltb, lt-leb,
 use Rattle.tables.specs.Checks.{checked}
 use Rattle.tables.specs.Lists.{firstAt}
 use Rattle.tables.specs.Sets.{claimed}
-use Rattle.tables.proofs.Checks.{Passed}
+use Rattle.ages.specs.Ages.{age}
 use Rattle.tables.specs.declared.Found.the-variants.{Nothing}
 use Rattle.answers.specs.declared.Answer.{Answer}
 use Rattle.answers.specs.declared.Answer.the-variants.{Granted}
@@ -25,11 +25,12 @@ use Rattle.state.specs.declared.Flag.the-variants.{Clear, Pfail, Fail}
 use Rattle.state.specs.declared.Moment.{Moment}
 use Rattle.state.specs.declared.Moment.the-variants.{Never, At}
 use Rattle.state.specs.declared.Outcome.{Outcome}
-use Rattle.votes.specs.Votes.{followsMaster, lately, requestChecks, newer, granted, settled, requested}
+use Rattle.votes.specs.Votes.{followsMaster, lately, requestChecks, newer, granted, byOwners, requested}
 use Rattle.votes.specs.Grants.{ListedMaster, ListedReplica, Grantable}
 use Rattle.tables.proofs.Checks.{never}
 use Rattle.tables.proofs.Walks.{none-passes, none-found}
-use Rattle.votes.proofs.Steps.{refuses, rows, request-cases}
+use Rattle.answers.proofs.Checks.{refuses}
+use Rattle.votes.proofs.Steps.{Unrefused, request-cases}
 
 -- ---- from the tests to the conditions
 
@@ -51,8 +52,8 @@ is-replica n k m e = go (ltb k (n .size)) refl e
     go true q e = record { listed = ltb-true k (n .size) q; replica = e }
     go false q e = let z : _≡_ {A = ℕ} 0 1 = cc in absurd (omega arith)
 
-rests : (n : Node) (v : Moment) → lately n v ≡ false → (t : ℕ) → v ≡ At t → 2 * n .timeout ≤ n .clock - t
-rests n v e t q = ltb-false (n .clock - t) (2 * n .timeout) (ap (lately n) (sym q) ∙ e)
+rests : (n : Node) (v : Moment) → lately n v ≡ false → (t : ℕ) → v ≡ At t → 2 * n .timeout ≤ age (n .clock) t
+rests n v e t q = ltb-false (age (n .clock) t) (2 * n .timeout) (ap (lately n) (sym q) ∙ e)
 
 owner-old : (n : Node) (bitmap : List ℕ) (config slot owner : ℕ) → newer n bitmap config slot owner ≡ false → claimed bitmap slot ≡ true → owner < n .size → recordAt n owner .config ≤ config
 owner-old n bitmap config slot owner e c l = ltb-false config (recordAt n owner .config) (rw (c, lt-ltb owner (n .size) l) at e)
@@ -65,9 +66,9 @@ tests-master n k l = rw (lt-ltb k (n .size) (l .listed), l .master)
 tests-role : (n : Node) (k m : ℕ) → ListedReplica n k m → roleAt n k ≡ Replica m
 tests-role n k m l = rw (lt-ltb k (n .size) (l .listed)) (l .replica)
 
-tests-rest : (n : Node) (v : Moment) → ((t : ℕ) → v ≡ At t → 2 * n .timeout ≤ n .clock - t) → lately n v ≡ false
+tests-rest : (n : Node) (v : Moment) → ((t : ℕ) → v ≡ At t → 2 * n .timeout ≤ age (n .clock) t) → lately n v ≡ false
 tests-rest n Never f = refl
-tests-rest n (At t) f = le-ltb (n .clock - t) (2 * n .timeout) (f t refl)
+tests-rest n (At t) f = le-ltb (age (n .clock) t) (2 * n .timeout) (f t refl)
 
 tests-owner : (n : Node) (bitmap : List ℕ) (config slot owner : ℕ) → (claimed bitmap slot ≡ true → owner < n .size → recordAt n owner .config ≤ config) → newer n bitmap config slot owner ≡ false
 tests-owner n bitmap config slot owner f = go (claimed bitmap slot) refl (ltb owner (n .size)) refl
@@ -85,8 +86,8 @@ module _ (n : Node) (slots bitmap : List ℕ) (candidate epoch config : ℕ) whe
   Holds = Grantable n slots bitmap candidate epoch config
 
   -- the conditions, where no check applied and no owner is newer
-  holds : Passed (rows n slots bitmap candidate epoch config) → firstAt (newer n bitmap config) slots ≡ Nothing → Holds
-  holds p e = go (roleAt n candidate) refl (not-false _ (p 3 Granted))
+  holds : Unrefused n slots bitmap candidate epoch config → firstAt (newer n bitmap config) slots ≡ Nothing → Holds
+  holds p e = go (roleAt n candidate) refl (not-false _ (p 14))
     where
       since : (m : ℕ) (f : Flag) → recordAt n m .flag ≡ f → isFail f ≡ true → (t : ℕ) × (recordAt n m .flag ≡ Fail t)
       since m Clear q h = never (sym h)
@@ -96,14 +97,14 @@ module _ (n : Node) (slots bitmap : List ℕ) (candidate epoch config : ℕ) whe
       go : (r : Role) → roleAt n candidate ≡ r → followsMaster n r ≡ true → Holds
       go Master q h = never (sym h)
       go (Replica m) q h =
-          let f : isFail (recordAt n (followed (roleAt n candidate)) .flag) ≡ true = not-false _ (p 4 Granted) in
+          let f : isFail (recordAt n (followed (roleAt n candidate)) .flag) ≡ true = not-false _ (p 15) in
           let d : followed (roleAt n candidate) ≡ m = ap followed q in
           let s = since m (recordAt n m .flag) refl (rw d at f) in
-          let v : lately n (recordAt n (followed (roleAt n candidate)) .vote) ≡ false = p 5 Granted in
+          let v : lately n (recordAt n (followed (roleAt n candidate)) .vote) ≡ false = p 16 in
           record {
-            own = is-master n (n .me) (not-false _ (p 0 Granted));
-            current = ltb-false epoch (n .current) (p 1 Granted);
-            unvoted = leb-false epoch (n .voted) (p 2 Granted);
+            own = is-master n (n .me) (not-false _ (p 11));
+            current = ltb-false epoch (n .current) (p 12);
+            unvoted = leb-false epoch (n .voted) (p 13);
             m = m;
             candidate-follows = is-replica n candidate m q;
             master = is-master n m h;
@@ -118,7 +119,7 @@ module _ (n : Node) (slots bitmap : List ℕ) (candidate epoch config : ℕ) whe
   grants g =
       let q = tests-role n candidate (g .m) (g .candidate-follows) in
       let f : firstAt (newer n bitmap config) slots ≡ Nothing = none-found (newer n bitmap config) 0 slots (λ k l. rw (zero-add k) (tests-owner n bitmap config k (getD slots k 0) (g .owners k l))) in
-      ap (λ (r : Role). checked (answered n) (requestChecks n r epoch) (settled n (followed r) epoch (firstAt (newer n bitmap config) slots))) q
+      ap (λ (r : Role). checked (answered n) (requestChecks n r epoch) (byOwners n (followed r) epoch (firstAt (newer n bitmap config) slots))) q
       ∙ (rw (tests-master n (n .me) (g .own), le-ltb epoch (n .current) (g .current), lt-leb epoch (n .voted) (g .unvoted), tests-master n (g .m) (g .master), g .fail, tests-rest n (recordAt n (g .m) .vote) (g .rested), f))
       ∙ ap (λ (r : Role). answered (granted (followed r) epoch n) Granted) (sym q)
 

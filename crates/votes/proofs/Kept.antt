@@ -6,7 +6,7 @@ use Prim.Native.Nat.{ℕ, _≤_}
 use native.Mathlib.Omega.{arith}
 use borrow.Author.Tests.{le-leb}
 use Rattle.state.specs.Node.{recordAt}
-use Rattle.state.specs.Changes.{withVote, withRecord}
+use Rattle.state.specs.Changes.{withVote, withRecord, withRecords}
 use Rattle.state.specs.declared.Node.{Node}
 use Rattle.state.specs.declared.Moment.the-variants.{At}
 use Rattle.state.specs.declared.Outcome.{Outcome}
@@ -20,7 +20,7 @@ use Rattle.votes.proofs.Steps.{request-cases}
 -- ---- a vote request; its epoch is at most currentEpoch, which has risen to it
 
 granted-sound : (n : Node) (m epoch : ℕ) → sound n ≡ true → epoch ≤ n .current → sound (granted m epoch n) ≡ true
-unfolding granted withRecord ownClear
+unfolding granted withRecords ownClear
 granted-sound n m epoch s l =
     let r = withVote (At (n .clock)) (recordAt n m) in
     voted-sound (withRecord m r n)

@@ -4,27 +4,15 @@ use mathlib.Core.List.{List, [], _∷_}
 use Prim.Native.Nat.{ℕ, zero, suc, _<_}
 use lib.ListN.{getD, set}
 use borrow.Author.Tests.{leb-false}
-use Rattle.tables.specs.Sets.{size}
 use Rattle.answers.specs.declared.Answer.the-variants.{Granted}
-use Rattle.state.specs.Node.{blank, recordAt, masterAt}
-use Rattle.state.specs.Changes.{withVote, withRecord, withVoted}
+use Rattle.state.specs.Node.{blank, recordAt, roleAt, followed}
+use Rattle.state.specs.Changes.{withVote, withRecord, withRecords, withVoted}
 use Rattle.state.specs.declared.Node.{Node}
 use Rattle.state.specs.declared.Record.{Record}
 use Rattle.state.specs.declared.Outcome.{Outcome}
-use Rattle.state.specs.Node.{roleAt, followed}
+use Rattle.soundness.proofs.Keeps.{Keeps, all-kept}
 use Rattle.votes.specs.Votes.{granted, requested}
 use Rattle.votes.proofs.Steps.{request-cases}
-
--- ---- what a vote request, an opening and an ack keep
-
--- this node's number, the roster's size, and who of the others is recorded as a master
-pub record Keeps (n n′ : Node) : Type 0 where
-  pub me : n′ .me ≡ n .me
-  pub size : n′ .size ≡ n .size
-  pub others : (k : ℕ) → (k ≡ n .me → ⊥) → masterAt n′ k ≡ masterAt n k
-
-pub all-kept : (n : Node) → Keeps n n
-all-kept n = record { me = refl; size = refl; others = λ k d. refl }
 
 role-kept : (rs : List Record) (m k : ℕ) (r : Record) → r .role ≡ getD rs m blank .role → getD (set rs m r) k blank .role ≡ getD rs k blank .role
 role-kept [] m k r e = refl
@@ -44,7 +32,7 @@ module _ (n : Node) (slots bitmap : List ℕ) (candidate epoch config : ℕ) whe
   unfolding granted withVoted
   grant-newer =
       request-cases n slots bitmap candidate epoch config (λ (o : Outcome). o .answer ≡ Granted → (n .voted < epoch) × (o .node .voted ≡ epoch))
-      (λ a t e. absurd (rw e at t)) (λ p f e. (leb-false epoch (n .voted) (p 2 Granted), refl))
+      (λ a t e. absurd (rw e at t)) (λ p f e. (leb-false epoch (n .voted) (p 13), refl))
 
   -- any other answer leaves the node as it was
   pub refused-vote : (voting .answer ≡ Granted → ⊥) → voting .node ≡ n
@@ -52,13 +40,19 @@ module _ (n : Node) (slots bitmap : List ℕ) (candidate epoch config : ℕ) whe
       request-cases n slots bitmap candidate epoch config (λ (o : Outcome). (o .answer ≡ Granted → ⊥) → o .node ≡ n)
       (λ a t d. refl) (λ p f d. absurd (d refl))
 
+  -- a grant changes the records and lastVoteEpoch, and nothing else
+  pub vote-changes : voting .node ≡ withRecords (voting .node .records) (withVoted (voting .node .voted) n)
+  unfolding granted withVoted withRecords
+  vote-changes =
+      request-cases n slots bitmap candidate epoch config (λ (o : Outcome). o .node ≡ withRecords (o .node .records) (withVoted (o .node .voted) n)) (λ a t. refl) (λ p f. refl)
+
   -- none changes the election
   pub vote-election : voting .node .election ≡ n .election
-  unfolding granted withVoted withRecord
+  unfolding granted withVoted withRecords
   vote-election = request-cases n slots bitmap candidate epoch config (λ (o : Outcome). o .node .election ≡ n .election) (λ a t. refl) (λ p f. refl)
 
   pub vote-keeps : Keeps n (voting .node)
-  unfolding granted withVoted withRecord
+  unfolding granted withVoted withRecords
   vote-keeps =
       request-cases n slots bitmap candidate epoch config (λ (o : Outcome). Keeps n (o .node)) (λ a t. all-kept n)
       (λ p f. record { me = refl; size = refl; others = λ k d. let m = followed (roleAt n candidate) in rw (role-kept (n .records) m k (withVote _ (recordAt n m)) refl) })

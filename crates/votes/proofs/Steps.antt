@@ -1,42 +1,65 @@
--- A vote request by its cases, for any statement about its outcome.
-use mathlib.Core.Path.{_≡_, refl}
-use mathlib.Core.Bool.{Bool, not}
-use mathlib.Core.List.{List, [], _∷_}
-use Prim.Native.Nat.{ℕ, _-_}
-use lib.Dec.{T, eqb}
-use Rattle.tables.specs.Checks.{allOf}
+-- A vote request by its cases, for any statement about its outcome, and the grant as the code makes it.
+use mathlib.Core.Path.{_≡_, refl, sym, ap}
+use mathlib.Core.Bool.{Bool, true, false}
+use mathlib.Core.List.{List}
+use Prim.Native.Nat.{ℕ}
+use lib.Dec.{T}
+use lib.ListN.{length, getD, set}
 use Rattle.tables.specs.Lists.{firstAt}
-use Rattle.tables.proofs.Checks.{Passed, through}
+use Rattle.tables.specs.Sizes.{nodeRoom}
+use Rattle.tables.proofs.Checks.{never}
 use Rattle.tables.specs.declared.Found.{Found}
-use Rattle.tables.specs.declared.Found.the-variants.{Nothing, At}
-use Rattle.answers.specs.Answers.{number}
+use Rattle.tables.specs.declared.Found.the-variants.{Nothing, At as Slot}
 use Rattle.answers.specs.declared.Answer.{Answer}
 use Rattle.answers.specs.declared.Answer.the-variants.{Granted, Outdated}
+use Rattle.answers.specs.declared.Check.{Check}
+use Rattle.answers.specs.declared.Check.the-variants.{Passed}
+use Rattle.answers.proofs.Checks.{onCheck, testFor, refuses, past}
+use Rattle.state.specs.Node.{blank, roleAt, followed}
+use Rattle.state.specs.Changes.{withVote, withVoted, withRecords}
 use Rattle.state.specs.Outcomes.{answered}
 use Rattle.state.specs.declared.Node.{Node}
+use Rattle.state.specs.declared.Record.{Record}
+use Rattle.state.specs.declared.Moment.the-variants.{At}
 use Rattle.state.specs.declared.Outcome.{Outcome}
-use Rattle.state.specs.Node.{roleAt, followed}
-use Rattle.votes.specs.Votes.{requestChecks, newer, granted, settled, requested}
-
--- an answer other than 0, 10 and 30
-abbrev pub refuses : Answer → Bool
-refuses a = allOf (not (eqb (number a) 0) ∷ not (eqb (number a) 10) ∷ not (eqb (number a) 30) ∷ [])
+use Rattle.records.specs.Known.{inRoom, placeOf}
+use Rattle.records.proofs.Known.{changed-there}
+use Rattle.votes.specs.Votes.{requestChecks, newer, granted, byOwners, requested}
 
 -- ---- a vote request
+
+refused-is : (b : Bool) → b ≡ true → T b
+refused-is true e = tt
+refused-is false e = never (sym e)
 
 module _ (n : Node) (slots bitmap : List ℕ) (candidate epoch config : ℕ) where
   abbrev pub rows : List (Bool × Answer)
   rows = requestChecks n (roleAt n candidate) epoch
 
+  -- no check applied, each by the number of its answer
+  abbrev pub Unrefused : Type 0
+  Unrefused = (a : ℕ) → testFor a rows ≡ false
+
   pub request-cases : (P : Outcome → Type 0)
       → ((a : Answer) → T (refuses a) → P (answered n a))
-      → (Passed rows → firstAt (newer n bitmap config) slots ≡ Nothing → P (answered (granted (followed (roleAt n candidate)) epoch n) Granted))
+      → (Unrefused → firstAt (newer n bitmap config) slots ≡ Nothing → P (answered (granted (followed (roleAt n candidate)) epoch n) Granted))
       → P (requested n slots bitmap candidate epoch config)
   unfolding requested
   request-cases P refused grants =
-      through P (answered n) rows _ (refused _ tt, (refused _ tt, (refused _ tt, (refused _ tt, (refused _ tt, (refused _ tt, tt)))))) λ p.
+      past P refuses (answered n) rows _ refl (λ a e. refused a (refused-is (refuses a) e)) λ p.
       last p (firstAt (newer n bitmap config) slots) refl
     where
-      last : Passed rows → (f : Found) → firstAt (newer n bitmap config) slots ≡ f → P (settled n (followed (roleAt n candidate)) epoch f)
+      last : Unrefused → (f : Found) → firstAt (newer n bitmap config) slots ≡ f → P (byOwners n (followed (roleAt n candidate)) epoch f)
       last p Nothing e = grants p e
-      last p (At slot) e = refused (Outdated slot) tt
+      last p (Slot slot) e = refused (Outdated slot) tt
+
+-- the owners decide where no check refused, by what the search found
+pub passed : (n : Node) (m epoch : ℕ) (f found g : Found) (check : Check) → check ≡ Passed → found ≡ f → found ≡ g → onCheck (answered n) (byOwners n m epoch f) check ≡ byOwners n m epoch g
+passed n m epoch f found g check e q h = rw (e, ← q, h)
+
+-- ---- the grant, made at the place of the candidate's master
+
+pub granted-there : (n : Node) → length (n .records) ≡ nodeRoom → (m epoch at : ℕ) (there voted kept : Record) → at ≡ placeOf m → there ≡ getD (n .records) at blank → voted ≡ withVote (At (n .clock)) there → kept ≡ inRoom m voted there → withVoted epoch (withRecords (set (n .records) at kept) n) ≡ granted m epoch n
+unfolding granted
+granted-there n room m epoch at there voted kept ea et ev ek =
+    rw (ek, ev, et, ea) (ap (λ (rs : List Record). withVoted epoch (withRecords rs n)) (changed-there (n .records) room m (withVote (At (n .clock)))))

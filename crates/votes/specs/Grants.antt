@@ -1,10 +1,11 @@
 -- When a vote is granted: the conditions of document 01, "Vote request", each as a statement. Now is the clock.
-use Prim.Native.Nat.{ℕ, _-_, _*_, _≤_, _<_}
+use Prim.Native.Nat.{ℕ, _*_, _≤_, _<_}
 use mathlib.Core.Path.{_≡_}
 use mathlib.Core.Bool.{true}
 use mathlib.Core.List.{List}
 use lib.ListN.{length, getD}
 use Rattle.tables.specs.Sets.{claimed}
+use Rattle.ages.specs.Ages.{age}
 use Rattle.state.specs.Node.{recordAt}
 use Rattle.state.specs.declared.Node.{Node}
 use Rattle.state.specs.declared.Role.the-variants.{Master, Replica}
@@ -35,6 +36,6 @@ pub record Grantable (n : Node) (slots bitmap : List ℕ) (candidate epoch confi
   pub since : ℕ
   pub fail : recordAt n m .flag ≡ Fail since
   -- no vote for one of its replicas is less than 2T old
-  pub rested : (t : ℕ) → recordAt n m .vote ≡ At t → 2 * n .timeout ≤ n .clock - t
+  pub rested : (t : ℕ) → recordAt n m .vote ≡ At t → 2 * n .timeout ≤ age (n .clock) t
   -- no claimed slot has an owner in the roster with a configEpoch above the request's
   pub owners : (slot : ℕ) → slot < length slots → claimed bitmap slot ≡ true → getD slots slot 0 < n .size → recordAt n (getD slots slot 0) .config ≤ config

@@ -1,5 +1,5 @@
 -- A vote request, past the refusals: document 01, "Vote request". Now is the clock.
-use Prim.Native.Nat.{ℕ, _-_, _*_}
+use Prim.Native.Nat.{ℕ}
 use mathlib.Core.Bool.{Bool, false, not}
 use mathlib.Core.List.{List, [], _∷_}
 use lib.Dec.{ltb, leb}
@@ -8,6 +8,7 @@ use Rattle.tables.specs.Lists.{firstAt}
 use Rattle.tables.specs.Sets.{claimed}
 use Rattle.tables.specs.declared.Found.{Found}
 use Rattle.tables.specs.declared.Found.the-variants.{Nothing, At as Slot}
+use Rattle.ages.specs.Ages.{age, underTwice}
 use Rattle.answers.specs.declared.Answer.{Answer}
 use Rattle.answers.specs.declared.Answer.the-variants.{Granted, NotMaster, StaleEpoch, AlreadyVoted, NoListedMaster, MasterNotFailed, VotedLately, Outdated}
 use Rattle.state.specs.Node.{recordAt, masterAt, listed, isFail, roleAt, followed}
@@ -28,7 +29,7 @@ followsMaster n (Replica m) = masterAt n m
 -- 16: less than 2T old
 abbrev pub lately : Node → Moment → Bool
 lately n Never = false
-lately n (At t) = ltb (n .clock - t) (2 * n .timeout)
+lately n (At t) = underTwice (n .timeout) (age (n .clock) t)
 
 -- 11 to 16, for a candidate of that role
 abbrev pub requestChecks : Node → Role → ℕ → List (Bool × Answer)
@@ -50,11 +51,11 @@ unfoldable pub granted : ℕ → ℕ → Node → Node
 granted m epoch n = withVoted epoch (onRecord m (withVote (At (n .clock))) n)
 
 -- 17 with the lowest such slot, else 10
-abbrev pub settled : Node → ℕ → ℕ → Found → Outcome
-settled n m epoch (Slot slot) = answered n (Outdated slot)
-settled n m epoch Nothing = answered (granted m epoch n) Granted
+abbrev pub byOwners : Node → ℕ → ℕ → Found → Outcome
+byOwners n m epoch (Slot slot) = answered n (Outdated slot)
+byOwners n m epoch Nothing = answered (granted m epoch n) Granted
 
 unfoldable pub requested : Node → List ℕ → List ℕ → ℕ → ℕ → ℕ → Outcome
 requested n slots bitmap candidate epoch config =
     let role = roleAt n candidate in
-    checked (answered n) (requestChecks n role epoch) (settled n (followed role) epoch (firstAt (newer n bitmap config) slots))
+    checked (answered n) (requestChecks n role epoch) (byOwners n (followed role) epoch (firstAt (newer n bitmap config) slots))

@@ -1,45 +1,72 @@
-// A vote request: document 01, "Vote request".
+// A vote request: document 01, "Vote request". The node is copied once and changed in place; a struct that is handed on costs a
+// copy, so the functions here take the node for its numbers and the records beside it.
 ghost use mathlib.Core.Path.{_≡_};
 ghost use Rattle.tables.specs.Checks.{checked};
 ghost use Rattle.tables.specs.Lists.{firstAt};
 ghost use Rattle.tables.specs.Sets.{claimed};
 ghost use Rattle.answers.specs.declared.Check.the-variants.{Passed, Refused};
-ghost use Rattle.votes.specs.Votes.{followsMaster, lately, requestChecks, newer, granted, settled, requested};
+ghost use Rattle.state.specs.Node.{recordAt, roleAt, followed};
+ghost use Rattle.records.specs.Known.{knownConfigs};
+ghost use Rattle.votes.specs.Votes.{followsMaster, lately, requestChecks, newer, requested};
 use answers::Answer;
 use answers::Check;
 use state::Moment;
 use state::Node;
 use state::Outcome;
+use state::Record;
 use state::Role;
 use tables::Found;
+use tables::NODES;
 
-fn follows_master(node: Node, role: Role) -> bool
+// The role of number k, by what is known of it; a number outside the roster is nobody's replica.
+fn role_of(node: Node, k: u8, known: Record) -> Role
+    requires { ⌜ known ≡ recordAt node k ⌝ }
+    ensures { λ r. ⌜ r ≡ roleAt node k ⌝ }
+{
+    if k as u16 >= node.size {
+        return Role::Master;
+    }
+    let role = known.role;
+    role
+}
+
+// Whether that role is a listed master's replica, by what is known of the one followed.
+fn follows_master(node: Node, role: Role, known: Record) -> bool
+    requires { ⌜ known ≡ recordAt node (followed role) ⌝ }
     ensures { λ r. ⌜ r ≡ followsMaster node role ⌝ }
 {
     match role {
         Role::Master => false,
-        Role::Replica(m) => state::master_at(node, m as usize),
+        Role::Replica(m) => {
+            if m as u16 >= node.size {
+                return false;
+            }
+            let its = known.role;
+            state::is_master(its)
+        }
     }
 }
 
-// Less than 2T old: half of the age is below T.
 fn lately(node: Node, vote: Moment) -> bool
     ensures { λ r. ⌜ r ≡ lately node vote ⌝ }
 {
     match vote {
         Moment::Never => false,
-        Moment::At(t) => {
-            let age = state::since(node.clock, t);
-            age / 2 < node.timeout
-        }
+        Moment::At(t) => ages::under_twice(node.timeout, ages::age(node.clock, t)),
     }
 }
 
-// 11 to 16.
-fn request_refusal(node: Node, role: Role, epoch: u64) -> Check
+// 11 to 16, by what is known of this node and of the one that the candidate follows.
+fn request_refusal(node: Node, mine: Record, role: Role, known: Record, epoch: u64) -> Check
+    requires { ⌜ mine ≡ recordAt node (node .me) ⌝ }
+    requires { ⌜ known ≡ recordAt node (followed role) ⌝ }
     ensures { λ r. ⌜ r ≡ checked Refused (requestChecks node role epoch) Passed ⌝ }
 {
-    if !state::master_at(node, node.me as usize) {
+    if node.me >= node.size {
+        return Check::Refused(Answer::NotMaster);
+    }
+    let own = mine.role;
+    if !state::is_master(own) {
         return Check::Refused(Answer::NotMaster);
     }
     if epoch < node.current {
@@ -48,11 +75,9 @@ fn request_refusal(node: Node, role: Role, epoch: u64) -> Check
     if epoch <= node.voted {
         return Check::Refused(Answer::AlreadyVoted);
     }
-    if !follows_master(node, role) {
+    if !follows_master(node, role, known) {
         return Check::Refused(Answer::NoListedMaster);
     }
-    let m = state::followed(role);
-    let known = state::record_at(node, m as usize);
     let flag = known.flag;
     if !state::is_fail(flag) {
         return Check::Refused(Answer::MasterNotFailed);
@@ -74,65 +99,29 @@ fn claimed(bitmap: &[u8], slot: usize) -> bool
     false
 }
 
-// The lowest claimed slot whose owner is newer than the candidate.
-fn first_newer(node: Node, slots: &[u16], bitmap: &[u8], config: u64) -> Found
+// The lowest claimed slot whose owner is newer than the candidate, by the known configEpochs.
+fn first_newer(node: Node, configs: &[u64], slots: &[u16], bitmap: &[u8], config: u64) -> Found
+    requires { ⌜ now configs ≡ knownConfigs (node .size) (node .records) ⌝ }
     ensures { λ r. ⌜ r ≡ firstAt (newer node (now (bitmap .entry)) config) (now (slots .entry)) ⌝ }
 {
-    let size = node.size as usize;
     let mut s: usize = 0;
     while s < slots.len() {
         if !claimed(bitmap, s) {
             s += 1;
             continue;
         }
-        let owner = slots[s] as usize;
-        if owner >= size {
+        let owner = slots[s];
+        if owner >= node.size {
             s += 1;
             continue;
         }
-        if owner >= 64 {
-            s += 1;
-            continue;
-        }
-        let known = node.records[owner];
-        if known.config <= config {
+        if records::known_at(configs, owner as usize) <= config {
             s += 1;
             continue;
         }
         return Found::At(s);
     }
     Found::Nothing
-}
-
-fn granted(node: Node, m: u8, epoch: u64) -> Node
-    ensures { λ r. ⌜ r ≡ granted m epoch node ⌝ }
-{
-    let known = state::record_at(node, m as usize);
-    let next = state::with_record(
-        node,
-        m as usize,
-        state::with_vote(known, Moment::At(node.clock)),
-    );
-    state::with_voted(next, epoch)
-}
-
-// 17, else 10.
-fn settled(node: Node, m: u8, epoch: u64, found: Found) -> Outcome
-    ensures { λ r. ⌜ r ≡ settled node m epoch found ⌝ }
-{
-    match found {
-        Found::At(slot) => Outcome {
-            answer: Answer::Outdated(slot),
-            node,
-        },
-        Found::Nothing => {
-            let next = granted(node, m, epoch);
-            Outcome {
-                answer: Answer::Granted,
-                node: next,
-            }
-        }
-    }
 }
 
 // A vote request, after the clock and currentEpoch have moved.
@@ -146,13 +135,40 @@ pub fn request(
 ) -> Outcome
     ensures { λ r. ⌜ r ≡ requested node (now (slots .entry)) (now (bitmap .entry)) candidate epoch config ⌝ }
 {
-    let role = state::role_at(node, candidate as usize);
-    let check = request_refusal(node, role, epoch);
+    let me = node.me as usize;
+    let own = records::place_of(me);
+    let number = candidate as usize;
+    let from = records::place_of(number);
+    let mut next = node;
+    let mine = records::known_of(me, next.records[own]);
+    let theirs = records::known_of(number, next.records[from]);
+    let role = role_of(next, candidate, theirs);
+    let m = state::followed(role) as usize;
+    let at = records::place_of(m);
+    let there = next.records[at];
+    let known = records::known_of(m, there);
+    let check = request_refusal(next, mine, role, known, epoch);
+    let mut answer = Answer::Granted;
     match check {
-        Check::Refused(answer) => Outcome { answer, node },
+        Check::Refused(why) => answer = why,
         Check::Passed => {
-            let found = first_newer(node, slots, bitmap, config);
-            settled(node, state::followed(role), epoch, found)
+            let listed = records::listed(next.size);
+            let mut configs = [0u64; NODES];
+            let mut k: usize = 0;
+            while k < listed {
+                let other = next.records[k];
+                configs[k] = other.config;
+                k += 1;
+            }
+            match first_newer(next, &configs, slots, bitmap, config) {
+                Found::At(slot) => answer = Answer::Outdated(slot),
+                Found::Nothing => {
+                    let voted = state::with_vote(there, Moment::At(next.clock));
+                    next.records[at] = records::kept_of(m, voted, there);
+                    next.voted = epoch;
+                }
+            }
         }
     }
+    Outcome { answer, node: next }
 }
