@@ -1,0 +1,86 @@
+-- What an opening does to a node, each law with a name.
+use mathlib.Core.Path.{_≡_, refl, ap, _∙_}
+use mathlib.Core.Bool.{false, cond}
+use mathlib.Core.List.{List}
+use Prim.Native.Nat.{ℕ, _+_, _≤_, _<_}
+use native.Mathlib.Decide.{decLt}
+use native.Mathlib.Omega.{arith}
+use lib.Dec.{ltb}
+use borrow.Author.Tests.{lt-ltb, le-ltb}
+use Rattle.tables.specs.Sizes.{nodeRoom}
+use Rattle.nodesets.specs.NodeSets.{none, has}
+use Rattle.nodesets.specs.declared.NodeSet.{NodeSet}
+use Rattle.nodesets.proofs.Members.{none-in, in-gathered}
+use Rattle.answers.specs.declared.Answer.the-variants.{Done}
+use Rattle.state.specs.Node.{masterAt, masters}
+use Rattle.state.specs.Changes.{withClock, withCurrent, withElection}
+use Rattle.state.specs.declared.Node.{Node}
+use Rattle.state.specs.declared.Election.the-variants.{Open}
+use Rattle.state.specs.declared.Outcome.{Outcome}
+use Rattle.soundness.proofs.Facts.{few-nodes}
+use Rattle.soundness.proofs.Keeps.{Keeps}
+use Rattle.openings.specs.Openings.{opening, opens}
+use Rattle.openings.proofs.Steps.{open-cases}
+
+-- a new election: an epoch above currentEpoch as it was, the masters listed for its set, none heard
+pub record NewElection (n n′ : Node) : Type 0 where
+  pub epoch : ℕ
+  pub opened : ℕ
+  pub voters : NodeSet
+  pub heard : NodeSet
+  pub election : n′ .election ≡ Open epoch opened voters heard
+  pub newer : n .current < epoch
+  pub current : n′ .current ≡ epoch
+  pub listed : (k : ℕ) → has voters k ≡ masterAt n k
+  pub unheard : (k : ℕ) → has heard k ≡ false
+
+-- the set of the masters listed has them as its members
+pub masters-listed : (n : Node) → n .size ≤ nodeRoom → (k : ℕ) → has (masters n) k ≡ masterAt n k
+masters-listed n l k = in-gathered (masterAt n) k ∙ by (decLt k nodeRoom)
+  where
+    by : Dec (k < nodeRoom) → cond (ltb k nodeRoom) (masterAt n k) false ≡ masterAt n k
+    by (yes h) = rw (lt-ltb k nodeRoom h)
+    by (no f) = rw (le-ltb k nodeRoom (omega arith), le-ltb k (n .size) (omega arith))
+
+module _ (n : Node) (slots : List ℕ) (time : ℕ) where
+  abbrev after : Node
+  after = opens n slots time .node
+
+  pub opening-new : opens n slots time .answer ≡ Done → NewElection n after
+  unfolding opening withElection withCurrent withClock
+  opening-new =
+      open-cases n slots time (λ (o : Outcome). o .answer ≡ Done → NewElection n (o .node))
+      (λ a t e. absurd (rw e at t)) (λ w a t e. absurd (rw e at t))
+      (λ w p e. record {
+        epoch = n .current + 1;
+        opened = time;
+        voters = masters n;
+        heard = none;
+        election = refl;
+        newer = omega arith;
+        current = refl;
+        listed = masters-listed n (few-nodes n (w .sounds));
+        unheard = none-in;
+      })
+
+  -- any other answer leaves all but the clock as it was
+  pub refused-opening : (opens n slots time .answer ≡ Done → ⊥) → after ≡ withClock (after .clock) n
+  unfolding withClock
+  refused-opening =
+      open-cases n slots time (λ (o : Outcome). (o .answer ≡ Done → ⊥) → o .node ≡ withClock (o .node .clock) n)
+      (λ a t d. refl) (λ w a t d. refl) (λ w p d. absurd (d refl))
+
+  -- none changes more than the clock, currentEpoch and the election
+  pub opening-changes : after ≡ withElection (after .election) (withCurrent (after .current) (withClock (after .clock) n))
+  unfolding opening withElection withCurrent withClock
+  opening-changes =
+      open-cases n slots time (λ (o : Outcome). o .node ≡ withElection (o .node .election) (withCurrent (o .node .current) (withClock (o .node .clock) n)))
+      (λ a t. refl) (λ w a t. refl) (λ w p. refl)
+
+  pub opening-voted : after .voted ≡ n .voted
+  unfolding withElection withCurrent withClock
+  opening-voted = ap (λ (b : Node). b .voted) opening-changes
+
+  pub opening-keeps : Keeps n after
+  unfolding withElection withCurrent withClock
+  opening-keeps = record { me = ap (λ (b : Node). b .me) opening-changes; size = ap (λ (b : Node). b .size) opening-changes; others = λ k d. ap (λ (b : Node). masterAt b k) opening-changes }
