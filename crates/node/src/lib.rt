@@ -4,14 +4,16 @@ ghost use Prim.Native.Nat.{ℕ};
 ghost use Rattle.answers.specs.declared.Answer.the-variants.{Done};
 ghost use Rattle.state.specs.Outcomes.{answered, Slotted, Stepped};
 ghost use Rattle.frames.specs.Frames.{bitmapOf};
-ghost use Rattle.ownership.specs.Heartbeat.{heartbeat};
+ghost use Rattle.heartbeats.specs.Heartbeats.{heartbeat};
 ghost use Rattle.votes.specs.Votes.{requested};
-ghost use Rattle.elections.specs.Elections.{opens};
-ghost use Rattle.routing.specs.MarkChanges.{setMark, clearMark};
+ghost use Rattle.openings.specs.Openings.{opens};
+ghost use Rattle.marks.specs.MarkChanges.{setMark, clearMark};
 ghost use Rattle.node.specs.Step.{onKind, onFrame};
 use answers::Answer;
 use answers::Check;
-use frames::Frame;
+use frames::Decoded;
+use frames::Header;
+use frames::Kind;
 use state::Move;
 use state::Node;
 use state::Outcome;
@@ -30,7 +32,7 @@ fn heartbeat(
 {
     let mut bits = [0u8; 2048];
     frames::bitmap(line, &mut bits);
-    ownership::heartbeat(node, slots, &bits, sender, role, config)
+    heartbeats::heartbeat(node, slots, &bits, sender, role, config)
 }
 
 // Kind 4.
@@ -59,38 +61,32 @@ fn done(node: Node) -> Outcome
 }
 
 // What each kind does, past the refusals.
-fn by_kind(node: Node, slots: &mut [u16], reports: &mut [u64], line: &[u8], frame: Frame) -> Outcome
-    ensures { λ r. ⌜ record { outcome = r; slots = now (slots .exit); reports = now (reports .exit) } ≡ onKind node (now (slots .entry)) (now (reports .entry)) (bitmapOf (now (line .entry))) frame ⌝ }
+fn by_kind(
+    node: Node,
+    slots: &mut [u16],
+    reports: &mut [u64],
+    line: &[u8],
+    header: Header,
+    kind: Kind,
+) -> Outcome
+    ensures { λ r. ⌜ record { outcome = r; slots = now (slots .exit); reports = now (reports .exit) } ≡ onKind node (now (slots .entry)) (now (reports .entry)) (bitmapOf (now (line .entry))) header kind ⌝ }
 {
-    match frame {
-        Frame::NotAFrame => done(node),
-        Frame::Heartbeat {
-            sender,
-            role,
-            config,
-            ..
-        } => heartbeat(node, slots, line, sender, role, config),
-        Frame::Report {
+    match kind {
+        Kind::Heartbeat { sender, role } => {
+            heartbeat(node, slots, line, sender, role, header.config)
+        }
+        Kind::Report {
             reporter,
             subject,
             verdict,
-            ..
-        } => done(failure::report(node, reports, reporter, subject, verdict)),
-        Frame::Fail { subject, .. } => done(failure::fail(node, subject)),
-        Frame::Request {
-            candidate,
-            current,
-            config,
-            ..
-        } => request(node, slots, line, candidate, current, config),
-        Frame::Ack {
-            voter,
-            candidate,
-            epoch,
-            ..
-        } => elections::ack(node, slots, voter, candidate, epoch),
-        Frame::Probe { subject, echo, .. } => done(failure::probe(node, slots, subject, echo)),
-        Frame::Tick { .. } => done(failure::tick(node, reports)),
+        } => done(reports::report(node, reports, reporter, subject, verdict)),
+        Kind::Fail { subject, .. } => done(reports::fail(node, subject)),
+        Kind::Request { candidate } => {
+            request(node, slots, line, candidate, header.epoch, header.config)
+        }
+        Kind::Ack { voter, candidate } => { acks::ack(node, slots, voter, candidate, header.epoch) }
+        Kind::Probe { subject, echo } => done(probes::probe(node, slots, subject, echo)),
+        Kind::Tick => done(probes::tick(node, reports)),
     }
 }
 
@@ -98,21 +94,22 @@ fn by_kind(node: Node, slots: &mut [u16], reports: &mut [u64], line: &[u8], fram
 pub fn frame(node: Node, slots: &mut [u16], reports: &mut [u64], line: &[u8]) -> Outcome
     ensures { λ r. ⌜ record { outcome = r; slots = now (slots .exit); reports = now (reports .exit) } ≡ onFrame node (now (slots .entry)) (now (reports .entry)) (now (line .entry)) ⌝ }
 {
-    let frame = frames::decode(line);
-    let check = refusals::refusal(node, slots.len(), reports.len(), frame);
+    let decoded = frames::decode(line);
+    let check = refusals::refusal(node, slots.len(), reports.len(), decoded);
     match check {
         Check::Refused(answer) => Outcome { answer, node },
-        Check::Passed => {
-            let time = refusals::time_of(frame);
-            let epoch = refusals::epoch_of(frame);
-            by_kind(
-                state::arrived(node, time, epoch),
-                slots,
-                reports,
-                line,
-                frame,
-            )
-        }
+        Check::Passed => match decoded {
+            Decoded::NotAFrame => Outcome {
+                answer: Answer::NotAFrame,
+                node,
+            },
+            Decoded::Good(frame) => {
+                let header = frame.header;
+                let kind = frame.kind;
+                let next = state::arrived(node, header.time, header.epoch);
+                by_kind(next, slots, reports, line, header, kind)
+            }
+        },
     }
 }
 
@@ -120,18 +117,18 @@ pub fn frame(node: Node, slots: &mut [u16], reports: &mut [u64], line: &[u8]) ->
 pub fn open_election(node: Node, slots: &[u16], time: u64) -> Outcome
     ensures { λ r. ⌜ r ≡ opens node (now (slots .entry)) time ⌝ }
 {
-    elections::open(node, slots, time)
+    openings::open(node, slots, time)
 }
 
 // A move mark set, and one cleared.
 pub fn set_mark(node: Node, slots: &[u16], slot: u16, movement: Move) -> Outcome
     ensures { λ r. ⌜ r ≡ setMark node (now (slots .entry)) slot movement ⌝ }
 {
-    routing::set_mark(node, slots, slot, movement)
+    marks::set_mark(node, slots, slot, movement)
 }
 
 pub fn clear_mark(node: Node, slot: u16) -> Outcome
     ensures { λ r. ⌜ r ≡ clearMark node slot ⌝ }
 {
-    routing::clear_mark(node, slot)
+    marks::clear_mark(node, slot)
 }

@@ -13,35 +13,31 @@ use Rattle.tables.specs.Sets.{claimed}
 use Rattle.tables.specs.declared.Found.{Found}
 use Rattle.tables.specs.declared.Found.the-variants.{Nothing, At}
 use Rattle.answers.specs.declared.Answer.the-variants.{Granted, StaleEpoch, AlreadyVoted, VotedLately, Outdated}
-use Rattle.state.specs.Node.{recordAt, listed}
-use Rattle.state.specs.Changes.{withRecord, withClock, withCurrent, withVoted, arrived}
-use Rattle.state.specs.Fresh.{freshNode}
+use Rattle.state.specs.Node.{recordAt, listed, roleAt, followed}
+use Rattle.state.specs.Changes.{withRecords, withClock, withCurrent, withVoted, arrived}
 use Rattle.state.specs.Outcomes.{answered, Stepped}
 use Rattle.state.specs.declared.Node.{Node}
 use Rattle.state.specs.declared.Outcome.{Outcome}
 use Rattle.soundness.specs.Sound.{arraysWhole, boundsKept, before, idsAscend, recordsSound, electionSound, marksAscend, marksSound, ownClear, sound}
+use Rattle.fresh.specs.Fresh.{freshNode}
 use Rattle.cases.specs.Cases.{casesNode}
 use Rattle.slots.specs.Cases.{KeyRow, keyAnswered, keyRows}
 use Rattle.slots.proofs.Cases.{key-cases}
-use Rattle.frames.specs.Lines.{character, hex, bytesOf, encode}
-use Rattle.frames.specs.Hex.{isDigit, digit, allDigits, byteAt, numberAt, bytesAt}
+use Rattle.hex.specs.Hex.{isDigit, digit, allDigits, byteAt, numberAt, bytesAt, character, hex, bytesOf}
+use Rattle.frames.specs.Lines.{encode}
 use Rattle.frames.specs.Frames.{frameOf, bitmapOf}
-use Rattle.frames.specs.declared.Frame.{Frame}
-use Rattle.frames.specs.declared.Frame.the-variants.{NotAFrame, Request}
-use Rattle.refusals.specs.Refusals.{isUnlisted, followsItself, namesThisNode, isBeyond, frameRefusals, refusals, refusal}
+use Rattle.frames.specs.declared.Decoded.{Decoded}
+use Rattle.frames.specs.declared.Decoded.the-variants.{NotAFrame, Good}
+use Rattle.refusals.specs.Refusals.{isBeyond, frameRefusals, refusals, refusal}
 use Rattle.answers.specs.declared.Check.{Check}
 use Rattle.answers.specs.declared.Check.the-variants.{Passed}
-use Rattle.state.specs.Node.{roleAt, followed}
-use Rattle.votes.specs.Votes.{requestChecks, newer, granted, settled, requested}
+use Rattle.votes.specs.Votes.{requestChecks, newer, granted, byOwners, requested}
 use Rattle.node.specs.Step.{onKind, onFrame, keeping}
 use Rattle.answers.proofs.Checks.{by-check}
-use Rattle.promises.specs.Cases.{voter, slots, reports, claimOfSlot0, Asked, ask, lineOf, VoteRow, voteRows, outdatedRows, Row, key, votes, voteAnswered, votesAnswered, AllCases}
+use Rattle.promises.specs.Cases.{voter, slots, reports, claimOfSlot0, Asked, ask, requestOf, lineOf, VoteRow, voteRows, outdatedRows, Row, key, votes, voteAnswered, votesAnswered, AllCases}
 use Rattle.promises.specs.Cases as table
 
 -- ---- one request of the table
-
-abbrev requestOf : Asked → Frame
-requestOf q = Request (q .candidate) (q .epoch) (q .config) (q .time)
 
 abbrev arrivedAt : Asked → Node → Node
 arrivedAt q n = arrived (q .time) (q .epoch) n
@@ -55,7 +51,7 @@ unfolding reports
 reports-long = refl
 
 -- a line that decodes and passes is the request
-asked-step : (n : Node) (q : Asked) (o : Outcome) → frameOf (lineOf q) ≡ requestOf q → refusal n slotCount reportCount (requestOf q) ≡ Passed
+asked-step : (n : Node) (q : Asked) (o : Outcome) → frameOf (lineOf q) ≡ Good (requestOf q) → refusal n slotCount reportCount (Good (requestOf q)) ≡ Passed
     → requested (arrivedAt q n) slots (bitmapOf (lineOf q)) (q .candidate) (q .epoch) (q .config) ≡ o → onFrame n slots reports (lineOf q) ≡ keeping slots reports o
 unfolding onFrame onKind
 asked-step n q o d p e = rw (by-check, d, slots-long, reports-long, p, e)
@@ -87,9 +83,9 @@ nothing-newer m bitmap config l o =
 
 -- then the checks decide
 settles : (m : Node) (bitmap : List ℕ) (candidate epoch config : ℕ) (x : Found) → firstAt (newer m bitmap config) slots ≡ x
-    → requested m slots bitmap candidate epoch config ≡ checked (answered m) (requestChecks m (roleAt m candidate) epoch) (settled m (followed (roleAt m candidate)) epoch x)
+    → requested m slots bitmap candidate epoch config ≡ checked (answered m) (requestChecks m (roleAt m candidate) epoch) (byOwners m (followed (roleAt m candidate)) epoch x)
 unfolding requested
-settles m bitmap candidate epoch config x e = ap (λ (f : Found). checked (answered m) (requestChecks m (roleAt m candidate) epoch) (settled m (followed (roleAt m candidate)) epoch f)) e
+settles m bitmap candidate epoch config x e = ap (λ (f : Found). checked (answered m) (requestChecks m (roleAt m candidate) epoch) (byOwners m (followed (roleAt m candidate)) epoch f)) e
 
 -- ---- the requests
 
@@ -112,12 +108,12 @@ q6 = ask 3 5 1 1000
 abbrev questions : List Asked
 questions = q1 ∷ q2 ∷ q4 ∷ q5 ∷ q6 ∷ []
 
-all-decode : map (λ (q : Asked). frameOf (lineOf q)) questions ≡ map requestOf questions
+all-decode : map (λ (q : Asked). frameOf (lineOf q)) questions ≡ map (λ (q : Asked). Good (requestOf q)) questions
 unfolding character hex bytesOf encode claimOfSlot0 lineOf isDigit digit allDigits byteAt numberAt frameOf
 all-decode = refl
 
-decodes : (k : ℕ) → getD (map (λ (q : Asked). frameOf (lineOf q)) questions) k NotAFrame ≡ getD (map requestOf questions) k NotAFrame
-decodes k = ap (λ (l : List Frame). getD l k NotAFrame) all-decode
+decodes : (k : ℕ) → getD (map (λ (q : Asked). frameOf (lineOf q)) questions) k NotAFrame ≡ getD (map (λ (q : Asked). Good (requestOf q)) questions) k NotAFrame
+decodes k = ap (λ (l : List Decoded). getD l k NotAFrame) all-decode
 
 -- ---- the voter after each
 
@@ -138,44 +134,44 @@ n5 = granted 0 6 (arrivedAt q5 n4)
 
 -- and none is turned away
 abbrev looks : Node → Asked → Check
-looks n q = refusal n slotCount reportCount (requestOf q)
+looks n q = refusal n slotCount reportCount (Good (requestOf q))
 
 abbrev checks : List Check
 checks = looks voter q1 ∷ looks n1 q2 ∷ looks n2 q2 ∷ looks n3 q4 ∷ looks n4 q5 ∷ looks voter q6 ∷ []
 
 all-pass : checks ≡ replicate 6 Passed
-unfolding every withRecord withClock withCurrent withVoted freshNode casesNode arraysWhole boundsKept before idsAscend recordsSound electionSound marksAscend marksSound ownClear sound isUnlisted followsItself namesThisNode isBeyond frameRefusals refusals granted voter
+unfolding every withRecords withClock withCurrent withVoted freshNode casesNode arraysWhole boundsKept before idsAscend recordsSound electionSound marksAscend marksSound ownClear sound isBeyond frameRefusals refusals granted voter
 all-pass = refl
 
 passes : (k : ℕ) → getD checks k Passed ≡ getD (replicate 6 Passed) k Passed
 passes k = ap (λ (l : List Check). getD l k Passed) all-pass
 
 vote1 : requested n1 slots (bitmapOf (lineOf q1)) 3 4 2 ≡ answered n1 StaleEpoch
-unfolding withRecord withClock withCurrent withVoted freshNode casesNode granted voter requested
+unfolding withRecords withClock withCurrent withVoted freshNode casesNode granted voter requested
 vote1 = refl
 
 vote2 : requested (arrivedAt q2 n1) slots (bitmapOf (lineOf q2)) 3 5 2 ≡ answered n2 Granted
-unfolding withRecord withClock withCurrent withVoted freshNode casesNode granted voter
+unfolding withRecords withClock withCurrent withVoted freshNode casesNode granted voter
 vote2 = settles (arrivedAt q2 n1) (bitmapOf (lineOf q2)) 3 5 2 Nothing (nothing-newer (arrivedAt q2 n1) (bitmapOf (lineOf q2)) 2 refl refl)
 
 vote3 : requested n3 slots (bitmapOf (lineOf q2)) 3 5 2 ≡ answered n3 AlreadyVoted
-unfolding withRecord withClock withCurrent withVoted freshNode casesNode granted voter requested
+unfolding withRecords withClock withCurrent withVoted freshNode casesNode granted voter requested
 vote3 = refl
 
 vote4 : requested n4 slots (bitmapOf (lineOf q4)) 4 6 2 ≡ answered n4 VotedLately
-unfolding withRecord withClock withCurrent withVoted freshNode casesNode granted voter requested
+unfolding withRecords withClock withCurrent withVoted freshNode casesNode granted voter requested
 vote4 = refl
 
 vote5 : requested (arrivedAt q5 n4) slots (bitmapOf (lineOf q5)) 4 6 2 ≡ answered n5 Granted
-unfolding withRecord withClock withCurrent withVoted freshNode casesNode granted voter
+unfolding withRecords withClock withCurrent withVoted freshNode casesNode granted voter
 vote5 = settles (arrivedAt q5 n4) (bitmapOf (lineOf q5)) 4 6 2 Nothing (nothing-newer (arrivedAt q5 n4) (bitmapOf (lineOf q5)) 2 refl refl)
 
 slot-0 : firstAt (newer (arrivedAt q6 voter) (bitmapOf (lineOf q6)) 1) slots ≡ At 0
-unfolding withRecord withClock withCurrent withVoted freshNode casesNode voter slots firstFrom bitmapOf bytesAt character hex bytesOf encode claimOfSlot0 lineOf isDigit digit byteAt
+unfolding withRecords withClock withCurrent withVoted freshNode casesNode voter slots firstFrom bitmapOf bytesAt character hex bytesOf encode claimOfSlot0 lineOf isDigit digit byteAt
 slot-0 = refl
 
 vote6 : requested (arrivedAt q6 voter) slots (bitmapOf (lineOf q6)) 3 5 1 ≡ answered (arrivedAt q6 voter) (Outdated 0)
-unfolding withRecord withClock withCurrent withVoted freshNode casesNode granted voter
+unfolding withRecords withClock withCurrent withVoted freshNode casesNode granted voter
 vote6 = settles (arrivedAt q6 voter) (bitmapOf (lineOf q6)) 3 5 1 (At 0) slot-0
 
 -- ---- the rows, one after the other
@@ -189,7 +185,7 @@ unfolding votesAnswered
 done n = refl
 
 votes-cases : votesAnswered voter voteRows ≡ voteRows
-unfolding withRecord withClock withCurrent withVoted freshNode casesNode granted voter
+unfolding withRecords withClock withCurrent withVoted freshNode casesNode granted voter
 votes-cases =
     row voter _ _ _ (asked-step voter q1 _ (decodes 0) (passes 0) vote1) refl
     (row n1 _ _ _ (asked-step n1 q2 _ (decodes 1) (passes 1) vote2) refl
@@ -198,10 +194,10 @@ votes-cases =
     (row n4 _ _ _ (asked-step n4 q5 _ (decodes 3) (passes 4) vote5) refl (done n5)))))
 
 outdated-cases : votesAnswered voter outdatedRows ≡ outdatedRows
-unfolding withRecord withClock withCurrent withVoted freshNode casesNode voter
+unfolding withRecords withClock withCurrent withVoted freshNode casesNode voter
 outdated-cases = row voter _ _ _ (asked-step voter q6 _ (decodes 4) (passes 5) vote6) refl (done _)
 
-key-rows : (ks : List KeyRow) (rest : List Row) → map table.answered (map key ks ++ rest) ≡ map key (map keyAnswered ks) ++ map table.answered rest
+key-rows : (ks : List KeyRow) (rest : List Row) → map table.rowAnswered (map key ks ++ rest) ≡ map key (map keyAnswered ks) ++ map table.rowAnswered rest
 key-rows [] rest = refl
 key-rows (k ∷ ks) rest = ap (λ (rs : List Row). key (keyAnswered k) ∷ rs) (key-rows ks rest)
 

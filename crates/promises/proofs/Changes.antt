@@ -1,101 +1,116 @@
--- What each call may change: the laws of the chapters, on lines.
-use mathlib.Core.Path.{_≡_, refl, sym, ap, _∙_}
+-- What each call changes: the laws of the chapters, on lines.
+use mathlib.Core.Path.{_≡_, refl, sym, ap, subst, _∙_}
 use mathlib.Core.Logic.{_⊎_, inl, inr}
 use mathlib.Core.Bool.{Bool, true, false, cond}
 use mathlib.Core.List.{List, [], _∷_}
 use Prim.Native.Nat.{ℕ, _+_, _<_}
 use native.Mathlib.Omega.{arith}
-use lib.Dec.{T, leb}
+use lib.Dec.{T, ltb, leb}
 use lib.ListN.{length, getD}
-use Rattle.tables.specs.Sets.{claimed}
 use lib.Seq.{getD-set-same, getD-set-other}
-use borrow.Author.Tests.{eqb-false, leb-false, le-ltb}
-use Rattle.tables.specs.Checks.{allOf}
-use Rattle.tables.proofs.Checks.{through, Passed, none}
+use borrow.Author.Tests.{leb-false, lt-ltb, le-ltb}
+use Rattle.tables.specs.Sets.{claimed}
+use Rattle.tables.specs.Sizes.{top, timeEnd}
+use Rattle.tables.proofs.Checks.{never, part, none}
 use Rattle.answers.specs.declared.Answer.the-variants.{Done}
-use Rattle.state.specs.Node.{blank, recordAt}
-use Rattle.state.specs.Changes.{withRole, withConfig, withRecord, withClock, withCurrent, risen, arrived}
+use Rattle.answers.proofs.Checks.{past, testFor}
+use Rattle.state.specs.Node.{blank, recordAt, masterAt, isMaster, roleAt}
+use Rattle.state.specs.Changes.{withRole, withConfig, withRecords, withClock, withCurrent, risen, arrived}
 use Rattle.state.specs.Outcomes.{answered, Slotted, Stepped}
 use Rattle.state.specs.declared.Node.{Node}
+use Rattle.state.specs.declared.Record.{Record}
 use Rattle.state.specs.declared.Outcome.{Outcome}
 use Rattle.state.specs.declared.Role.{Role}
 use Rattle.state.specs.declared.Role.the-variants.{Master, Replica}
-use Rattle.state.specs.declared.Election.the-variants.{Open}
+use Rattle.state.specs.declared.Verdict.{Verdict}
+use Rattle.state.specs.declared.Verdict.the-variants as verdict
 use Rattle.state.specs.declared.Echo.{Echo}
 use Rattle.state.specs.declared.Echo.the-variants.{Ping, Pong}
 use Rattle.soundness.proofs.Facts.{all-records, few-nodes, me-listed}
-use Rattle.frames.specs.Frames.{frameOf, bitmapOf}
+use Rattle.frames.specs.Frames.{layoutOf, frameOf, bitmapOf}
+use Rattle.frames.specs.Lines.{encode, RestFits, Fits}
+use Rattle.frames.specs.declared.Header.{Header}
+use Rattle.frames.specs.declared.Kind.{Kind}
+use Rattle.frames.specs.declared.Kind.the-variants.{Heartbeat, Report, Fail, Request, Ack, Probe, Tick}
 use Rattle.frames.specs.declared.Frame.{Frame}
-use Rattle.frames.specs.declared.Frame.the-variants.{NotAFrame, Heartbeat, Report, Fail, Request, Ack, Probe, Tick}
-use Rattle.refusals.specs.Refusals.{refusals, frameRefusals, timeOf, epochOf, isUnlisted, namesThisNode}
-use Rattle.failure.specs.Failure.{probed}
-use Rattle.failure.specs.Keeps.{PingsOnly, OthersKept}
-use Rattle.failure.proofs.Keeps.{failure-keeps, failure-changes}
+use Rattle.frames.specs.declared.Decoded.{Decoded}
+use Rattle.frames.specs.declared.Decoded.the-variants.{NotAFrame, Good}
+use Rattle.frames.proofs.OneLine.{one-line}
+use Rattle.refusals.specs.Refusals.{isBeyond, frameRefusals, refusals, turnsAway}
+use Rattle.refusals.proofs.Admitted.{Admitted, admitted, all-turn-away}
+use Rattle.failure.specs.Failure.{stamp, lookedAt}
+use Rattle.probes.specs.Probes.{afterProbe, probed}
+use Rattle.probes.proofs.Keeps.{probes-change}
+use Rattle.probes.proofs.Ticks.{tick-each}
+use Rattle.reports.specs.Reports.{stored, reported, failed}
+use Rattle.records.specs.Known.{knownConfigs}
 use Rattle.ownership.specs.Claim.{Claimant, claimant, fateAt, entryAfter, claim}
 use Rattle.ownership.specs.declared.Fate.{Fate}
 use Rattle.ownership.specs.declared.Fate.the-variants.{Bound, Rebound, Stale, Stays}
-use Rattle.ownership.specs.Heartbeat.{told, heardNode, knownConfigs, tied, heartbeat}
-use Rattle.ownership.proofs.Frame as ownership
 use Rattle.ownership.proofs.Owners.{length-kept, entry, unclaimed-stays}
-use Rattle.state.specs.Node.{roleAt}
-use Rattle.elections.specs.Elections.{openRefusals, openChecks, opening, opens, standing}
+use Rattle.heartbeats.specs.Heartbeats.{heardOf, withSender, tied, heartbeat}
+use Rattle.heartbeats.proofs.Frame as heartbeats
 use Rattle.votes.proofs.Steps.{request-cases}
-use Rattle.elections.proofs.Steps.{open-cases, more, ack-cases}
-use Rattle.routing.proofs.Kept.{set-marks-keep, clear-marks-keep, set-done, clear-done}
-use Rattle.node.specs.Step.{onKind, turnedAway, taken, onFrame}
-use Rattle.promises.specs.Refused.{turnsAway}
-use Rattle.promises.specs.Changes.{BesideRecords, heardRecord, Bumped, NotBumped, RequestChanges, AckChanges, LineChanges, OpeningChanges, MarkChanges}
-use Rattle.promises.proofs.Sounds.{node-sound, all-listed, not-this-node}
-
--- ---- a frame without an epoch moves the clock only
-
-clock-moves : (time : ℕ) (n : Node) → arrived time 0 n ≡ withClock time n
-unfolding withClock withCurrent
-clock-moves time n = ap (λ (e : ℕ). withClock time (withCurrent e n)) stays
-  where
-    stays : risen (n .current) 0 ≡ n .current
-    stays = ap (λ (b : Bool). cond b 0 (n .current)) (le-ltb (n .current) 0 (omega arith))
+use Rattle.openings.specs.Openings.{openRefusals, openChecks, opening, opens, standing}
+use Rattle.openings.proofs.Steps.{open-cases}
+use Rattle.acks.proofs.Steps.{ack-cases}
+use Rattle.marks.proofs.Kept.{set-marks-keep, clear-marks-keep, set-done, clear-done}
+use Rattle.node.specs.Step.{onKind, turnedAway, takenIn, onFrame}
+use Rattle.promises.specs.Changes.{Bumped, NotBumped, givesWay, RequestChanges, AckChanges, KindChanges, LineChanges, OpeningChanges, MarkChanges}
+use Rattle.promises.proofs.Refused.{letsPass}
+use Rattle.promises.proofs.Sounds.{sender-listed, sender-other}
 
 -- ---- heartbeat
 
-module _ (n : Node) (slots bitmap : List ℕ) (sender current config time : ℕ) where
+module _ (n : Node) (slots bitmap : List ℕ) (h : Header) (sender : ℕ) where
   abbrev m : Node
-  m = arrived time current n
+  m = arrived (h .time) (h .epoch) n
 
   abbrev hears : Role → Slotted
-  hears role = heartbeat m slots bitmap sender role config
+  hears role = heartbeat m slots bitmap sender role (h .config)
 
   abbrev then : Role → Node
   then role = hears role .outcome .node
 
-  beside : (role : Role) → BesideRecords n (then role)
-  unfolding withClock withCurrent
-  beside role = let k = ownership.heartbeat-keeps m slots bitmap sender config role in record { ids = k .ids; marks = k .marks; size = k .size; me = k .me; marked = k .marked; voted = k .voted; timeout = k .timeout; election = k .election }
+  abbrev tie : Role → Bool
+  tie role = givesWay m sender role (h .config)
 
-  clock-told : (role : Role) → then role .clock ≡ time
-  unfolding withClock
-  clock-told role = ownership.heartbeat-keeps m slots bitmap sender config role .clock
+  beside : (role : Role) → then role ≡ withRecords (then role .records) (withCurrent (then role .current) (withClock (h .time) n))
+  unfolding withRecords withClock withCurrent
+  beside role = heartbeats.heartbeat-keeps m slots bitmap sender (h .config) role
 
   module _ (d : sender ≡ n .me → ⊥) (l : sender < length (n .records)) (own : n .me < length (n .records)) where
-    sender-heard : (role : Role) → recordAt (then role) sender ≡ heardRecord role config (recordAt n sender)
-    unfolding withClock withCurrent heartbeat told withRecord
-    sender-heard Master = ownership.sender-record m slots bitmap sender config d l
+    sender-heard : (role : Role) → recordAt (then role) sender ≡ heardOf role (h .config) (recordAt n sender)
+    unfolding withClock withCurrent heartbeat withSender withRecords
+    sender-heard Master = heartbeats.sender-record m slots bitmap sender (h .config) d l
     sender-heard (Replica f) = getD-set-same (n .records) sender (withRole (Replica f) (recordAt n sender)) blank l
 
-    gave-way : (role : Role) → NotBumped m (then role) ⊎ Bumped m (then role)
-    unfolding withClock withCurrent heartbeat told withRecord
-    gave-way (Replica f) = inl (record { current = refl; config = getD-set-other (n .records) sender (n .me) (withRole (Replica f) (recordAt n sender)) blank (λ e. d (sym e)) })
-    gave-way Master = by (allOf (tied sender config (heardNode m sender config))) (ownership.master-current m slots bitmap sender config) (ownership.own-record m slots bitmap sender config (λ e. d (sym e)) own)
+    -- a replica ties with nobody
+    no-master : (f : ℕ) → masterAt (withSender sender (Replica f) (h .config) m) sender ≡ false
+    unfolding withClock withCurrent withSender withRecords
+    no-master f = by (ltb sender (n .size))
       where
-        by : (b : Bool) → then Master .current ≡ cond b (m .current + 1) (m .current) → recordAt (then Master) (m .me) ≡ cond b (withConfig (m .current + 1) (recordAt m (m .me))) (recordAt m (m .me)) → NotBumped m (then Master) ⊎ Bumped m (then Master)
-        by true c r = inr (record { current = c; config = r })
-        by false c r = inl (record { current = c; config = r })
+        by : (b : Bool) → cond b (isMaster (recordAt (withSender sender (Replica f) (h .config) m) sender .role)) false ≡ false
+        by true = ap (λ (r : Record). isMaster (r .role)) (getD-set-same (n .records) sender (withRole (Replica f) (recordAt n sender)) blank l)
+        by false = refl
+
+    gave-way : (role : Role) → (tie role ≡ true → Bumped m (then role)) × (tie role ≡ false → NotBumped m (then role))
+    unfolding withClock withCurrent heartbeat withSender withRecords
+    gave-way (Replica f) = (
+      λ e. never (sym (part 1 (tied sender (h .config) (withSender sender (Replica f) (h .config) m)) e) ∙ no-master f),
+      λ e. record { current = refl; config = getD-set-other (n .records) sender (n .me) (withRole (Replica f) (recordAt n sender)) blank (λ q. d (sym q)) },
+    )
+    gave-way Master = by (tie Master) (heartbeats.master-current m slots bitmap sender (h .config)) (heartbeats.own-record m slots bitmap sender (h .config) (λ e. d (sym e)) own)
+      where
+        by : (b : Bool) → then Master .current ≡ cond b (m .current + 1) (m .current) → recordAt (then Master) (m .me) ≡ cond b (withConfig (m .current + 1) (recordAt m (m .me))) (recordAt m (m .me)) → (b ≡ true → Bumped m (then Master)) × (b ≡ false → NotBumped m (then Master))
+        by true c r = (λ e. record { current = c; config = r }, λ e. never e)
+        by false c r = (λ e. never (sym e), λ e. record { current = c; config = r })
 
   claims-nothing : (role : Role) (f : ℕ) → role ≡ Replica f → hears role .slots ≡ slots
-  claims-nothing role f e = ap (λ (r : Role). hears r .slots) e ∙ ownership.replica-claims-nothing m slots bitmap sender config f
+  claims-nothing role f e = ap (λ (r : Role). hears r .slots) e ∙ heartbeats.replica-claims-nothing m slots bitmap sender (h .config) f
 
   abbrev c : Claimant
-  c = claimant (knownConfigs (heardNode m sender config)) (heardNode m sender config .size) sender config
+  c = let heard = withSender sender Master (h .config) m in claimant (knownConfigs (heard .size) (heard .records)) (heard .size) sender (h .config)
 
   unclaimed : (role : Role) (k : ℕ) → k < length slots → claimed bitmap k ≡ false → getD (hears role .slots) k 0 ≡ getD slots k 0
   unfolding heartbeat
@@ -120,85 +135,125 @@ module _ (n : Node) (slots bitmap : List ℕ) (sender current config time : ℕ)
 
 -- ---- by kind
 
-sender-listed : (size sender : ℕ) (role : Role) (current config time : ℕ) → isUnlisted size (Heartbeat sender role current config time) ≡ false → sender < size
-unfolding isUnlisted
-sender-listed size sender Master current config time e = leb-false size sender e
-sender-listed size sender (Replica f) current config time e = leb-false size sender (none 0 (leb size sender ∷ leb size f ∷ []) e)
+-- a time that passes is stored as the time plus one
+stamped : (h : Header) → isBeyond h ≡ false → stamp (h .time) ≡ h .time + 1
+unfolding isBeyond
+stamped h e = rw (lt-ltb (h .time) timeEnd (leb-false timeEnd (h .time) (none 3 (ltb top (h .epoch) ∷ ltb top (h .config) ∷ ltb (h .epoch) (h .config) ∷ leb timeEnd (h .time) ∷ []) e)))
 
-ping-alone : (n : Node) (slots : List ℕ) (subject : ℕ) (echo : Echo) → echo ≡ Ping → PingsOnly n (probed n slots subject echo)
-ping-alone n slots subject Ping e = failure-changes n .ping slots subject .0
-ping-alone n slots subject Pong e = let z : _≡_ {A = ℕ} 0 1 = cc in absurd (omega arith)
+module _ (n : Node) (slots reports bitmap : List ℕ) (h : Header) where
+  abbrev Passed : Kind → Type 0
+  Passed k = Admitted n (length slots) (length reports) (record { header = h; kind = k })
 
-probe-others : (n : Node) (slots : List ℕ) (subject : ℕ) (echo : Echo) → OthersKept subject n (probed n slots subject echo)
-probe-others n slots subject Ping = failure-changes n .ping slots subject .1
-probe-others n slots subject Pong = failure-changes n .pong slots subject
+  abbrev Changes : Kind → Node → Type 0
+  Changes k x = KindChanges n slots reports (onKind x slots reports bitmap h k) h bitmap k
 
-kind-changes : (n : Node) (slots reports bitmap : List ℕ) (f : Frame) → Passed (refusals n (length slots) (length reports) f) → LineChanges n slots reports (onKind (arrived (timeOf f) (epochOf f) n) slots reports bitmap f) bitmap f
-unfolding onKind refusals frameRefusals namesThisNode withClock withCurrent
-kind-changes n slots reports bitmap NotAFrame p = let e : _≡_ {A = Bool} true false = p 2 Done in let z : _≡_ {A = ℕ} 0 1 = cc in omega arith
-kind-changes n slots reports bitmap (Heartbeat sender role current config time) p =
-    let f = Heartbeat sender role current config time in
-    let h = node-sound n (length slots) (length reports) f p in
-    let d : sender ≡ n .me → ⊥ = λ e. eqb-false (n .me) sender (not-this-node n (length slots) (length reports) f p) (sym e) in
-    let i : sender < n .size = sender-listed (n .size) sender role current config time (all-listed n (length slots) (length reports) f p) in
-    let l : sender < length (n .records) = omega (arith, i, all-records n h, few-nodes n h) in
-    let o : n .me < length (n .records) = omega (arith, me-listed n h, all-records n h, few-nodes n h) in
-    record {
-      kept = beside n slots bitmap sender current config time role;
-      clock = clock-told n slots bitmap sender current config time role;
-      sender-heard = sender-heard n slots bitmap sender current config time d l o role;
-      others = λ k a b. ownership.others-kept (arrived time current n) slots bitmap sender config role k a b;
-      own = gave-way n slots bitmap sender current config time d l o role;
-      to-sender = to-sender n slots bitmap sender current config time role;
-      unclaimed = unclaimed n slots bitmap sender current config time role;
-      replica-claims-nothing = claims-nothing n slots bitmap sender current config time role;
-      slots-long = table-long n slots bitmap sender current config time role;
-      reports-kept = refl;
-    }
-kind-changes n slots reports bitmap (Report reporter subject verdict time) p =
-    let c = failure-changes (arrived time 0 n) in
-    record {
-      flag = rw (← clock-moves time n) (c .report reports reporter subject verdict .0);
-      others = c .report reports reporter subject verdict .1;
-      entry = c .entry reports reporter subject verdict;
-      slots-kept = refl;
-    }
-kind-changes n slots reports bitmap (Fail sender subject time) p =
-    let c = failure-changes (arrived time 0 n) in
-    record { flag = rw (← clock-moves time n) (c .fail subject .0); others = c .fail subject .1; tables = record { slots-kept = refl; reports-kept = refl } }
-kind-changes n slots reports bitmap (Request candidate current config time) p =
-    request-cases (arrived time current n) slots bitmap candidate current config (λ (o : Outcome). RequestChanges n slots reports (record { outcome = o; slots = slots; reports = reports }) candidate current time)
-    (λ a t. record { refused = λ d. refl; granted = λ e. absurd (rw e at t); tables = record { slots-kept = refl; reports-kept = refl } })
-    (λ p f. record { refused = λ d. absurd (d refl); granted = λ e. refl; tables = record { slots-kept = refl; reports-kept = refl } })
-kind-changes n slots reports bitmap (Ack voter candidate epoch time) p =
-    ack-cases (arrived time epoch n) slots voter candidate epoch (λ (o : Slotted). AckChanges n slots reports (record { outcome = o .outcome; slots = o .slots; reports = reports }) epoch time)
-    (λ a t. record { refused = λ d e. (refl, refl); counted = λ e. absurd (rw e at t); won = λ e. absurd (rw e at t); reports-kept = refl })
-    (λ o v h w q. record {
-      refused = λ d e. absurd (d refl);
-      counted = λ e. ((Open epoch o v (more (arrived time epoch n) slots voter candidate epoch h), refl), refl);
-      won = λ e. let z : _≡_ {A = ℕ} 0 1 = cc in absurd (omega arith);
-      reports-kept = refl;
-    })
-    (λ o v h w q. record { refused = λ d e. absurd (e refl); counted = λ e. let z : _≡_ {A = ℕ} 0 1 = cc in absurd (omega arith); won = λ e. (refl, refl); reports-kept = refl })
-kind-changes n slots reports bitmap (Probe subject echo time) p =
-    let m = arrived time 0 n in
-    record {
-      ping-or-flag = rw (← clock-moves time n) (failure-keeps m .probe slots subject echo);
-      ping-alone = λ e. rw (← clock-moves time n) (ping-alone m slots subject echo e);
-      others = probe-others m slots subject echo;
-      tables = record { slots-kept = refl; reports-kept = refl };
-    }
-kind-changes n slots reports bitmap (Tick time) p = record { flags = rw (← clock-moves time n) (failure-changes (arrived time 0 n) .tick reports); tables = record { slots-kept = refl; reports-kept = refl } }
+  abbrev later : Node
+  later = withClock (h .time) n
+
+  -- a frame without an epoch moves the clock only
+  clock-moves : h .epoch ≡ 0 → arrived (h .time) (h .epoch) n ≡ later
+  unfolding withClock withCurrent
+  clock-moves e = ap (λ (x : ℕ). withClock (h .time) (withCurrent (risen (n .current) x) n)) e ∙ ap (λ (b : Bool). withClock (h .time) (withCurrent (cond b 0 (n .current)) n)) (le-ltb (n .current) 0 (omega arith))
+
+  report-changes : (reporter subject : ℕ) (said : Verdict) → Passed (Report reporter subject said) → Changes (Report reporter subject said) later
+  unfolding onKind withClock reported stored lookedAt
+  report-changes reporter subject verdict.Fine a = record { node = refl; tables = record { slots-kept = refl; reports-kept = refl } }
+  report-changes reporter subject verdict.Pfail a = record { node = refl; entry = rw (stamped h (a .within-bounds)); slots-kept = refl }
+  report-changes reporter subject verdict.Fail a = record { node = refl; entry = rw (stamped h (a .within-bounds)); slots-kept = refl }
+
+  probe-changes : (subject : ℕ) (echo : Echo) → Changes (Probe subject echo) later
+  unfolding onKind withClock probed afterProbe
+  probe-changes subject Ping = record { node = refl; tables = record { slots-kept = refl; reports-kept = refl } }
+  probe-changes subject Pong = record { node = refl; tables = record { slots-kept = refl; reports-kept = refl } }
+
+  fail-changes : (sender subject : ℕ) → Changes (Fail sender subject) later
+  unfolding onKind withClock failed
+  fail-changes sender subject = record { node = refl; tables = record { slots-kept = refl; reports-kept = refl } }
+
+  tick-changes : Passed Tick → Changes Tick later
+  unfolding onKind withClock
+  tick-changes a =
+      let s = a .node-sound in
+      record {
+        flags = probes-change later .tick reports;
+        each = λ k l. tick-each later reports k l (omega (arith, l, all-records n s, few-nodes n s));
+        tables = record { slots-kept = refl; reports-kept = refl };
+      }
+
+  heartbeat-changes : (sender : ℕ) (role : Role) → Passed (Heartbeat sender role) → Changes (Heartbeat sender role) (arrived (h .time) (h .epoch) n)
+  unfolding onKind withClock withCurrent
+  heartbeat-changes sender role a =
+      let s = a .node-sound in
+      let d : sender ≡ n .me → ⊥ = sender-other (n .me) sender role (a .not-this-node) in
+      let i : sender < n .size = sender-listed (n .size) sender role (a .all-listed) in
+      let l : sender < length (n .records) = omega (arith, i, all-records n s, few-nodes n s) in
+      let o : n .me < length (n .records) = omega (arith, me-listed n s, all-records n s, few-nodes n s) in
+      record {
+        rest = beside n slots bitmap h sender role;
+        sender-heard = sender-heard n slots bitmap h sender d l o role;
+        others = λ k x y. heartbeats.others-kept (arrived (h .time) (h .epoch) n) slots bitmap sender (h .config) role k x y;
+        bump = gave-way n slots bitmap h sender d l o role .0;
+        no-bump = gave-way n slots bitmap h sender d l o role .1;
+        slots-long = table-long n slots bitmap h sender role;
+        to-sender = to-sender n slots bitmap h sender role;
+        unclaimed = unclaimed n slots bitmap h sender role;
+        replica-claims-nothing = claims-nothing n slots bitmap h sender role;
+        reports-kept = refl;
+      }
+
+  request-changes : (candidate : ℕ) → Changes (Request candidate) (arrived (h .time) (h .epoch) n)
+  unfolding onKind
+  request-changes candidate =
+      request-cases (arrived (h .time) (h .epoch) n) slots bitmap candidate (h .epoch) (h .config) (λ (o : Outcome). RequestChanges n slots reports (record { outcome = o; slots = slots; reports = reports }) h candidate)
+      (λ a t. record { refused = λ d. refl; granted = λ e. absurd (rw e at t); tables = record { slots-kept = refl; reports-kept = refl } })
+      (λ p f. record { refused = λ d. absurd (d refl); granted = λ e. refl; tables = record { slots-kept = refl; reports-kept = refl } })
+
+  ack-changes : (voter candidate : ℕ) → Changes (Ack voter candidate) (arrived (h .time) (h .epoch) n)
+  unfolding onKind withClock withCurrent
+  ack-changes voter candidate =
+      ack-cases (arrived (h .time) (h .epoch) n) slots voter candidate (h .epoch) (λ (o : Slotted). AckChanges n slots reports (record { outcome = o .outcome; slots = o .slots; reports = reports }) h voter)
+      (λ a t. record { refused = λ d e. (refl, refl); counted = λ e. absurd (rw e at t); won = λ e. absurd (rw e at t); reports-kept = refl })
+      (λ opened voters heard w q. record {
+        refused = λ d e. absurd (d refl);
+        counted = λ e. record { opened = opened; voters = voters; heard = heard; running = w .running; node = refl; slots-kept = refl };
+        won = λ e. let z : _≡_ {A = ℕ} 0 1 = cc in absurd (omega arith);
+        reports-kept = refl;
+      })
+      (λ opened voters heard w q. record { refused = λ d e. absurd (e refl); counted = λ e. let z : _≡_ {A = ℕ} 0 1 = cc in absurd (omega arith); won = λ e. (refl, refl); reports-kept = refl })
+
+  -- the kinds without an epoch are said with the clock moved, the others with currentEpoch risen too
+  kind-changes : (k : Kind) → Passed k → RestFits (layoutOf k) h bitmap → Changes k (arrived (h .time) (h .epoch) n)
+  kind-changes (Heartbeat sender role) a f = heartbeat-changes sender role a
+  kind-changes (Report reporter subject said) a f = subst (Changes (Report reporter subject said)) (sym (clock-moves (f .1))) (report-changes reporter subject said a)
+  kind-changes (Fail sender subject) a f = subst (Changes (Fail sender subject)) (sym (clock-moves (f .1))) (fail-changes sender subject)
+  kind-changes (Request candidate) a f = request-changes candidate
+  kind-changes (Ack voter candidate) a f = ack-changes voter candidate
+  kind-changes (Probe subject echo) a f = subst (Changes (Probe subject echo)) (sym (clock-moves (f .1))) (probe-changes subject echo)
+  kind-changes Tick a f = subst (Changes Tick) (sym (clock-moves (f .1))) (tick-changes a)
 
 -- ---- a line
 
+-- what a line's frame carries
+fits : (line : List ℕ) (f : Frame) → frameOf line ≡ Good f → Fits f (bitmapOf line)
+fits line f e = by (one-line .written-back line)
+  where
+    by : (frameOf line ≡ NotAFrame) ⊎ ((g : Frame) × (frameOf line ≡ Good g) × Fits g (bitmapOf line) × (encode g (bitmapOf line) ≡ line)) → Fits f (bitmapOf line)
+    by (inl q) = let z : _≡_ {A = ℕ} 0 1 = cc in absurd (omega arith)
+    by (inr x) = let q : x .0 ≡ f = cc in subst (λ (g : Frame). Fits g (bitmapOf line)) q (x .2)
+
+no-frame : (n : Node) (slots reports : ℕ) → ((a : ℕ) → testFor a (refusals n slots reports NotAFrame) ≡ false) → ⊥
+unfolding refusals frameRefusals
+no-frame n slots reports p = never (p 2)
+
 pub what-a-line-changes : (n : Node) (slots reports line : List ℕ) → (T (turnsAway (onFrame n slots reports line .outcome .answer)) → ⊥) → LineChanges n slots reports (onFrame n slots reports line) (bitmapOf line) (frameOf line)
-unfolding onFrame refusals frameRefusals
+unfolding onFrame
 what-a-line-changes n slots reports line =
-    let f = frameOf line in
-    through (λ (x : Stepped). (T (turnsAway (x .outcome .answer)) → ⊥) → LineChanges n slots reports x (bitmapOf line) f) (turnedAway n slots reports) (refusals n (length slots) (length reports) f) (taken n slots reports (bitmapOf line) f)
-    (λ d. absurd (d tt), (λ d. absurd (d tt), (λ d. absurd (d tt), (λ d. absurd (d tt), (λ d. absurd (d tt), (λ d. absurd (d tt), (λ d. absurd (d tt), (λ d. absurd (d tt), tt))))))))
-    (λ p d. kind-changes n slots reports (bitmapOf line) f p)
+    past (λ (x : Stepped). (T (turnsAway (x .outcome .answer)) → ⊥) → LineChanges n slots reports x (bitmapOf line) (frameOf line)) turnsAway (turnedAway n slots reports) (refusals n (length slots) (length reports) (frameOf line)) (takenIn n slots reports (bitmapOf line) (frameOf line))
+    (all-turn-away n (length slots) (length reports) (frameOf line)) (λ a q d. absurd (d (rw q tt))) (λ p d. go (frameOf line) refl p)
+  where
+    go : (d : Decoded) → frameOf line ≡ d → ((a : ℕ) → testFor a (refusals n (length slots) (length reports) d) ≡ false) → LineChanges n slots reports (takenIn n slots reports (bitmapOf line) d) (bitmapOf line) d
+    go NotAFrame e p = absurd (no-frame n (length slots) (length reports) p)
+    go (Good f) e p = kind-changes n slots reports (bitmapOf line) (f .header) (f .kind) (admitted n (length slots) (length reports) f p) (fits line f e .1)
 
 -- ---- an opening, and marks
 
@@ -210,8 +265,8 @@ unfolding opens withClock
 opening-clock n slots time =
     let P : Outcome → Type 0 = λ o. (o .answer ≡ Done → ⊥) → (T (turnsAway (o .answer)) → ⊥) → o .node ≡ withClock time n in
     let m = withClock time n in
-    through P (answered n) (openRefusals n slots time) (standing m slots) (λ d e. absurd (e tt), (λ d e. absurd (e tt), (λ d e. absurd (e tt), (λ d e. absurd (e tt), tt)))) (λ p.
-    through P (answered m) (openChecks m slots (roleAt m (n .me))) _ (λ d e. refl, (λ d e. refl, (λ d e. refl, (λ d e. refl, (λ d e. refl, tt))))) (λ q d e. absurd (d refl)))
+    past P turnsAway (answered n) (openRefusals n slots time) (standing m slots) refl (λ a q d e. absurd (e (rw q tt))) (λ p.
+    past P letsPass (answered m) (openChecks m slots (roleAt m (n .me))) _ refl (λ a q d e. refl) (λ q d e. absurd (d refl)))
 
 pub what-an-opening-changes : (n : Node) (slots : List ℕ) (time : ℕ) → OpeningChanges n slots time
 what-an-opening-changes n slots time = record { opened = opening-done n slots time; clock-only = opening-clock n slots time }

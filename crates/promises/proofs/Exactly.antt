@@ -1,56 +1,59 @@
 -- A line is answered 10 exactly when it is a request whose conditions hold, and a slot passes exactly when the frame beats its owner.
 use mathlib.Core.Path.{_≡_, refl, sym, ap, _∙_}
-use mathlib.Core.Bool.{Bool, true, false, cond, not}
+use mathlib.Core.Bool.{Bool, true, false}
 use mathlib.Core.List.{List, [], _∷_}
-use Prim.Native.Nat.{ℕ, suc, _<_}
+use Prim.Native.Nat.{ℕ, _≤_, _<_}
 use native.Mathlib.Omega.{arith}
-use lib.Dec.{eqb}
+use lib.Dec.{eqb, leb}
 use lib.ListN.{length, getD}
-use borrow.Author.Tests.{eqb-true, not-false}
+use borrow.Author.Tests.{eqb-true, leb-true}
 use Rattle.tables.specs.Sizes.{slotCount, reportCount}
 use Rattle.tables.specs.Checks.{checked}
-use Rattle.tables.proofs.Checks.{through, Passed, none}
+use Rattle.tables.proofs.Checks.{part}
 use Rattle.answers.specs.Answers.{number}
-use Rattle.answers.specs.declared.Answer.the-variants.{Done, Granted}
-use Rattle.state.specs.Changes.{withRecord, withClock, withCurrent, arrived}
+use Rattle.answers.specs.declared.Answer.{Answer}
+use Rattle.answers.specs.declared.Answer.the-variants.{Granted}
+use Rattle.answers.proofs.Checks.{by-check, past, testFor}
+use Rattle.state.specs.Changes.{withRecords, withClock, withCurrent, arrived}
 use Rattle.state.specs.Outcomes.{Slotted, Stepped}
 use Rattle.state.specs.declared.Node.{Node}
 use Rattle.state.specs.declared.Outcome.{Outcome}
 use Rattle.state.specs.declared.Role.{Role}
 use Rattle.state.specs.declared.Role.the-variants.{Master, Replica}
 use Rattle.frames.specs.Frames.{frameOf, bitmapOf}
-use Rattle.frames.specs.declared.Frame.{Frame}
-use Rattle.frames.specs.declared.Frame.the-variants.{NotAFrame, Heartbeat, Report, Fail, Request, Ack, Probe, Tick}
-use Rattle.refusals.specs.Refusals.{refusals, frameRefusals, timeOf, epochOf}
-use Rattle.answers.specs.declared.Check.the-variants as check
+use Rattle.frames.specs.declared.Header.{Header}
+use Rattle.frames.specs.declared.Kind.{Kind}
+use Rattle.frames.specs.declared.Kind.the-variants.{Heartbeat, Report, Fail, Request, Ack, Probe, Tick}
+use Rattle.frames.specs.declared.Decoded.{Decoded}
+use Rattle.frames.specs.declared.Decoded.the-variants.{NotAFrame, Good}
+use Rattle.refusals.specs.Refusals.{refusals, turnsAway}
+use Rattle.refusals.proofs.Admitted.{admitted, passes, all-turn-away}
+use Rattle.records.specs.Known.{knownConfigs}
 use Rattle.ownership.specs.Claim.{claimant}
-use Rattle.ownership.specs.Heartbeat.{told, heardConfig, knownConfigs, heardNode, heartbeat}
 use Rattle.ownership.proofs.Owners.{unowned-goes, unclaimed-stays}
-use Rattle.ownership.proofs.Frame.{slot-passes-exactly-when}
+use Rattle.heartbeats.specs.Heartbeats.{withSender, heartbeat}
+use Rattle.heartbeats.proofs.Frame.{slot-passes-exactly-when}
 use Rattle.votes.specs.Votes.{requested}
-use Rattle.elections.specs.Elections.{acked}
 use Rattle.votes.proofs.Steps.{request-cases}
-use Rattle.elections.proofs.Steps.{ack-cases}
 use Rattle.votes.proofs.Exactly.{granted-exactly}
-use Rattle.node.specs.Step.{onKind, turnedAway, taken, onFrame}
-use Rattle.answers.proofs.Checks.{by-check}
-use Rattle.promises.specs.Exactly.{answerTo, GrantableLine, GrantedExactly, SlotPassesExactly, UnownedGoesExactly}
+use Rattle.acks.specs.Acks.{acked}
+use Rattle.acks.proofs.Steps.{ack-cases}
+use Rattle.node.specs.Step.{onKind, turnedAway, takenIn, onFrame}
+use Rattle.promises.specs.Exactly.{answerTo, Reads, GrantableLine, GrantedExactly, SlotPassesExactly, UnownedGoesExactly}
+
+-- an answer that turns a line away is one of 1 to 8
+from-one : (a : Answer) → turnsAway a ≡ true → 1 ≤ number a
+from-one a e = leb-true 1 (number a) (part 0 (leb 1 (number a) ∷ leb (number a) 8 ∷ []) e)
+
+to-eight : (a : Answer) → turnsAway a ≡ true → number a ≤ 8
+to-eight a e = leb-true (number a) 8 (part 1 (leb 1 (number a) ∷ leb (number a) 8 ∷ []) e)
 
 -- ---- 10
 
--- no row applied, so the checks come to what is after them
-passed : {A B : Type 0} (refuse : B → A) (rows : List (Bool × B)) (rest : A) → Passed rows → checked refuse rows rest ≡ rest
-passed refuse [] rest p = refl
-passed {A} {B} refuse (row ∷ rows) rest p = first (row .0) (p 0 (row .1)) ∙ passed refuse rows rest (λ k d. p (suc k) d)
-  where
-    first : (t : Bool) → t ≡ false → cond t (refuse (row .1)) (checked refuse rows rest) ≡ checked refuse rows rest
-    first true e = let z : _≡_ {A = ℕ} 0 1 = cc in absurd (omega arith)
-    first false e = refl
-
 -- the answer's number 10 is the answer Granted
-request-ten : (n : Node) (slots bitmap : List ℕ) (candidate current config : ℕ) → number (requested n slots bitmap candidate current config .answer) ≡ 10 → requested n slots bitmap candidate current config .answer ≡ Granted
-request-ten n slots bitmap candidate current config =
-    request-cases n slots bitmap candidate current config (λ (o : Outcome). number (o .answer) ≡ 10 → o .answer ≡ Granted) (λ a t e. absurd (rw e at t)) (λ p f e. refl)
+request-ten : (n : Node) (slots bitmap : List ℕ) (candidate epoch config : ℕ) → number (requested n slots bitmap candidate epoch config .answer) ≡ 10 → requested n slots bitmap candidate epoch config .answer ≡ Granted
+request-ten n slots bitmap candidate epoch config =
+    request-cases n slots bitmap candidate epoch config (λ (o : Outcome). number (o .answer) ≡ 10 → o .answer ≡ Granted) (λ a t e. absurd (rw e at t)) (λ p f e. refl)
 
 ack-no-ten : (n : Node) (slots : List ℕ) (voter candidate epoch : ℕ) → number (acked n slots voter candidate epoch .outcome .answer) ≡ 10 → ⊥
 ack-no-ten n slots voter candidate epoch =
@@ -62,57 +65,50 @@ heard-no-ten n slots bitmap sender Master config e = omega (arith, e)
 heard-no-ten n slots bitmap sender (Replica m) config e = omega (arith, e)
 
 -- of what passes, a request alone is answered 10
-pub record Asks (n : Node) (slots bitmap : List ℕ) (f : Frame) : Type 0 where
+pub record Asks (n : Node) (slots bitmap : List ℕ) (h : Header) (k : Kind) : Type 0 where
   pub candidate : ℕ
-  pub current : ℕ
-  pub config : ℕ
-  pub time : ℕ
-  pub request : f ≡ Request candidate current config time
-  pub answer : requested (arrived time current n) slots bitmap candidate current config .answer ≡ Granted
+  pub request : k ≡ Request candidate
+  pub answer : requested n slots bitmap candidate (h .epoch) (h .config) .answer ≡ Granted
 
-kind-ten : (n : Node) (slots reports bitmap : List ℕ) (f : Frame) → number (onKind (arrived (timeOf f) (epochOf f) n) slots reports bitmap f .outcome .answer) ≡ 10 → Asks n slots bitmap f
+kind-ten : (n : Node) (slots reports bitmap : List ℕ) (h : Header) (k : Kind) → number (onKind n slots reports bitmap h k .outcome .answer) ≡ 10 → Asks n slots bitmap h k
 unfolding onKind
-kind-ten n slots reports bitmap NotAFrame e = absurd (omega (arith, e))
-kind-ten n slots reports bitmap (Heartbeat sender role current config time) e = absurd (heard-no-ten (arrived time current n) slots bitmap sender role config e)
-kind-ten n slots reports bitmap (Report reporter subject verdict time) e = absurd (omega (arith, e))
-kind-ten n slots reports bitmap (Fail sender subject time) e = absurd (omega (arith, e))
-kind-ten n slots reports bitmap (Request candidate current config time) e = record {
-  candidate = candidate;
-  current = current;
-  config = config;
-  time = time;
-  request = refl;
-  answer = request-ten (arrived time current n) slots bitmap candidate current config e;
-}
-kind-ten n slots reports bitmap (Ack voter candidate epoch time) e = absurd (ack-no-ten (arrived time epoch n) slots voter candidate epoch e)
-kind-ten n slots reports bitmap (Probe subject echo time) e = absurd (omega (arith, e))
-kind-ten n slots reports bitmap (Tick time) e = absurd (omega (arith, e))
+kind-ten n slots reports bitmap h (Heartbeat sender role) e = absurd (heard-no-ten n slots bitmap sender role (h .config) e)
+kind-ten n slots reports bitmap h (Report reporter subject said) e = absurd (omega (arith, e))
+kind-ten n slots reports bitmap h (Fail sender subject) e = absurd (omega (arith, e))
+kind-ten n slots reports bitmap h (Request candidate) e = record { candidate = candidate; request = refl; answer = request-ten n slots bitmap candidate (h .epoch) (h .config) e }
+kind-ten n slots reports bitmap h (Ack voter candidate) e = absurd (ack-no-ten n slots voter candidate (h .epoch) e)
+kind-ten n slots reports bitmap h (Probe subject echo) e = absurd (omega (arith, e))
+kind-ten n slots reports bitmap h Tick e = absurd (omega (arith, e))
 
 module _ (n : Node) (slots reports line : List ℕ) where
-  abbrev f : Frame
-  f = frameOf line
+  abbrev rows : Decoded → List (Bool × Answer)
+  rows d = refusals n (length slots) (length reports) d
 
   ten : answerTo n slots reports line ≡ 10 → GrantableLine n slots reports line
-  unfolding onFrame refusals frameRefusals
+  unfolding onFrame
   ten =
-      let no : (a : ℕ) → a < 9 → a ≡ 10 → GrantableLine n slots reports line = λ a l e. absurd (omega arith) in
-      through (λ (x : Stepped). number (x .outcome .answer) ≡ 10 → GrantableLine n slots reports line) (turnedAway n slots reports) (refusals n (length slots) (length reports) f) (taken n slots reports (bitmapOf line) f)
-      (no 1 (omega arith), (no 7 (omega arith), (no 2 (omega arith), (no 3 (omega arith), (no 8 (omega arith), (no 6 (omega arith), (no 5 (omega arith), (no 4 (omega arith), tt))))))))
-      (λ p e. let a = kind-ten n slots reports (bitmapOf line) f e in record {
-        candidate = a .candidate;
-        current = a .current;
-        config = a .config;
-        time = a .time;
-        request = a .request;
-        passes = passed check.Refused (refusals n (length slots) (length reports) f) check.Passed p;
-        conditions = granted-exactly (arrived (a .time) (a .current) n) slots (bitmapOf line) (a .candidate) (a .current) (a .config) .0 (a .answer);
-      })
+      past (λ (x : Stepped). number (x .outcome .answer) ≡ 10 → GrantableLine n slots reports line) turnsAway (turnedAway n slots reports) (rows (frameOf line)) (takenIn n slots reports (bitmapOf line) (frameOf line))
+      (all-turn-away n (length slots) (length reports) (frameOf line)) (λ a q e. absurd (omega (arith, e, to-eight a q))) (go (frameOf line) refl)
+    where
+      go : (d : Decoded) → frameOf line ≡ d → ((a : ℕ) → testFor a (rows d) ≡ false) → number (takenIn n slots reports (bitmapOf line) d .outcome .answer) ≡ 10 → GrantableLine n slots reports line
+      go NotAFrame q p e = absurd (omega (arith, e))
+      go (Good f) q p e =
+          let m = arrived (f .header .time) (f .header .epoch) n in
+          let a = kind-ten m slots reports (bitmapOf line) (f .header) (f .kind) e in
+          record {
+            header = f .header;
+            candidate = a .candidate;
+            request = q ∙ ap (λ (k : Kind). Good (record { header = f .header; kind = k })) (a .request);
+            passes = rw q (passes n (length slots) (length reports) f (admitted n (length slots) (length reports) f p));
+            conditions = granted-exactly m slots (bitmapOf line) (a .candidate) (f .header .epoch) (f .header .config) .0 (a .answer);
+          }
 
   granted : GrantableLine n slots reports line → answerTo n slots reports line ≡ 10
   unfolding onFrame onKind
   granted g =
+      let h = g .header in
       rw (by-check, g .passes, g .request)
-      (ap number (granted-exactly (arrived (g .time) (g .current) n) slots (bitmapOf line) (g .candidate) (g .current) (g .config) .1 (g .conditions)))
+      (ap number (granted-exactly (arrived (h .time) (h .epoch) n) slots (bitmapOf line) (g .candidate) (h .epoch) (h .config) .1 (g .conditions)))
 
   pub granted-exactly-on-lines : GrantedExactly n slots reports line
   granted-exactly-on-lines = record { if = granted; only-if = ten }
@@ -120,52 +116,51 @@ module _ (n : Node) (slots reports line : List ℕ) where
 -- ---- a slot
 
 -- a master's heartbeat that is answered 0 was not turned away, and the slot table was whole
-module _ (n : Node) (slots reports bitmap : List ℕ) (sender current config time : ℕ) where
-  abbrev frame : Frame
-  frame = Heartbeat sender Master current config time
+module _ (n : Node) (slots reports bitmap : List ℕ) (h : Header) (sender : ℕ) where
+  abbrev decoded : Decoded
+  decoded = Good (record { header = h; kind = Heartbeat sender Master })
 
-  abbrev stepped : Stepped
-  stepped = checked (turnedAway n slots reports) (refusals n (length slots) (length reports) frame) (taken n slots reports bitmap frame)
+  abbrev stepped : Decoded → Stepped
+  stepped d = checked (turnedAway n slots reports) (refusals n (length slots) (length reports) d) (takenIn n slots reports bitmap d)
 
   abbrev Taken : Stepped → Type 0
-  Taken x = (length slots ≡ slotCount) × (x .slots ≡ heartbeat (arrived time current n) slots bitmap sender Master config .slots)
+  Taken x = (length slots ≡ slotCount) × (x .slots ≡ heartbeat (arrived (h .time) (h .epoch) n) slots bitmap sender Master (h .config) .slots)
 
-  zero-taken : number (stepped .outcome .answer) ≡ 0 → Taken stepped
-  unfolding refusals frameRefusals onKind
+  zero-taken : number (stepped decoded .outcome .answer) ≡ 0 → Taken (stepped decoded)
+  unfolding onKind
   zero-taken =
-      let no : (a : ℕ) → 0 < a → a ≡ 0 → ⊥ = λ a l e. omega arith in
-      through (λ (x : Stepped). number (x .outcome .answer) ≡ 0 → Taken x) (turnedAway n slots reports) (refusals n (length slots) (length reports) frame) (taken n slots reports bitmap frame)
-      (λ e. absurd (no 1 (omega arith) e), (λ e. absurd (no 7 (omega arith) e), (λ e. absurd (no 2 (omega arith) e), (λ e. absurd (no 3 (omega arith) e), (λ e. absurd (no 8 (omega arith) e), (λ e. absurd (no 6 (omega arith) e), (λ e. absurd (no 5 (omega arith) e), (λ e. absurd (no 4 (omega arith) e), tt))))))))
-      (λ p e. (eqb-true (length slots) slotCount (not-false _ (none 0 (not (eqb (length slots) slotCount) ∷ not (eqb (length reports) reportCount) ∷ []) (p 0 Done))), refl))
+      past (λ (x : Stepped). number (x .outcome .answer) ≡ 0 → Taken x) turnsAway (turnedAway n slots reports) (refusals n (length slots) (length reports) decoded) (takenIn n slots reports bitmap decoded)
+      (all-turn-away n (length slots) (length reports) decoded) (λ a q e. absurd (omega (arith, e, from-one a q)))
+      (λ p e. (eqb-true (length slots) slotCount (part 0 (eqb (length slots) slotCount ∷ eqb (length reports) reportCount ∷ []) (admitted n (length slots) (length reports) (record { header = h; kind = Heartbeat sender Master }) p .lengths)), refl))
 
 -- the same of the line
-line-taken : (n : Node) (slots reports line : List ℕ) (sender current config time : ℕ) → frameOf line ≡ Heartbeat sender Master current config time → answerTo n slots reports line ≡ 0
-    → Taken n slots reports (bitmapOf line) sender current config time (onFrame n slots reports line)
+line-taken : (n : Node) (slots reports line : List ℕ) (h : Header) (sender : ℕ) → Reads n slots reports line h (Heartbeat sender Master) → answerTo n slots reports line ≡ 0
+    → Taken n slots reports (bitmapOf line) h sender (onFrame n slots reports line)
 unfolding onFrame
-line-taken n slots reports line sender current config time q a =
-    let on : onFrame n slots reports line ≡ stepped n slots reports (bitmapOf line) sender current config time = ap (λ (f : Frame). checked (turnedAway n slots reports) (refusals n (length slots) (length reports) f) (taken n slots reports (bitmapOf line) f)) q in
-    let z = zero-taken n slots reports (bitmapOf line) sender current config time (ap (λ (x : Stepped). number (x .outcome .answer)) (sym on) ∙ a) in
+line-taken n slots reports line h sender q a =
+    let on : onFrame n slots reports line ≡ stepped n slots reports (bitmapOf line) h sender (decoded n slots reports (bitmapOf line) h sender) = ap (stepped n slots reports (bitmapOf line) h sender) q in
+    let z = zero-taken n slots reports (bitmapOf line) h sender (ap (λ (x : Stepped). number (x .outcome .answer)) (sym on) ∙ a) in
     (z .0, ap (λ (x : Stepped). x .slots) on ∙ z .1)
 
 module _ (n : Node) (slots reports line : List ℕ) where
   pub slot-passes-exactly-on-lines : SlotPassesExactly n slots reports line
   unfolding withClock withCurrent
-  slot-passes-exactly-on-lines sender current config time q a s l o d =
-      let z = line-taken n slots reports line sender current config time q a in
-      let g = slot-passes-exactly-when (arrived time current n) slots (bitmapOf line) sender config s (omega (arith, z .0, l)) o d in
+  slot-passes-exactly-on-lines h sender q a s l o d =
+      let z = line-taken n slots reports line h sender q a in
+      let g = slot-passes-exactly-when (arrived (h .time) (h .epoch) n) slots (bitmapOf line) sender (h .config) s (omega (arith, z .0, l)) o d in
       let e = ap (λ (x : List ℕ). getD x s 0) (z .1) in
       record {
-        if = λ h. e ∙ g .if (h .claims, h .above);
-        only-if = λ h. let r = g .only-if (sym e ∙ h) in record { claims = r .0; above = r .1 };
-        otherwise = λ h. e ∙ g .otherwise (λ r. h (record { claims = r .0; above = r .1 }));
+        if = λ b. e ∙ g .if (b .claims, b .above);
+        only-if = λ b. let r = g .only-if (sym e ∙ b) in record { claims = r .0; above = r .1 };
+        otherwise = λ b. e ∙ g .otherwise (λ r. b (record { claims = r .0; above = r .1 }));
       }
 
   pub unowned-goes-exactly-on-lines : UnownedGoesExactly n slots reports line
-  unfolding heartbeat told heardConfig withRecord withClock withCurrent
-  unowned-goes-exactly-on-lines sender current config time q a s l o =
-      let z = line-taken n slots reports line sender current config time q a in
-      let m = heardNode (arrived time current n) sender config in
-      let c = claimant (knownConfigs m) (m .size) sender config in
+  unfolding heartbeat withSender withRecords withClock withCurrent
+  unowned-goes-exactly-on-lines h sender q a s l o =
+      let z = line-taken n slots reports line h sender q a in
+      let m = withSender sender Master (h .config) (arrived (h .time) (h .epoch) n) in
+      let c = claimant (knownConfigs (m .size) (m .records)) (m .size) sender (h .config) in
       let w : s < length slots = omega (arith, z .0, l) in
       let e = ap (λ (x : List ℕ). getD x s 0) (z .1) in
-      record { if = λ h. e ∙ unowned-goes c (bitmapOf line) slots s w o h; otherwise = λ h. e ∙ unclaimed-stays c (bitmapOf line) slots s w h }
+      record { if = λ b. e ∙ unowned-goes c (bitmapOf line) slots s w o b; otherwise = λ b. e ∙ unclaimed-stays c (bitmapOf line) slots s w b }

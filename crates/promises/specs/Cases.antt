@@ -15,7 +15,8 @@ use Rattle.state.specs.declared.Flag.the-variants.{Fail}
 use Rattle.cases.specs.Cases.{casesNode}
 use Rattle.slots.specs.Cases.{KeyRow, keyAnswered, keyRows}
 use Rattle.frames.specs.Lines.{encode}
-use Rattle.frames.specs.declared.Frame.the-variants.{Request}
+use Rattle.frames.specs.declared.Frame.{Frame}
+use Rattle.frames.specs.declared.Kind.the-variants.{Request}
 use Rattle.node.specs.Step.{onFrame}
 
 -- ---- the node for the cases
@@ -43,8 +44,11 @@ pub record Asked : Type 0 where
   pub config : ℕ
   pub time : ℕ
 
+abbrev pub requestOf : Asked → Frame
+requestOf q = record { header = record { time = q .time; epoch = q .epoch; config = q .config }; kind = Request (q .candidate) }
+
 unfoldable pub lineOf : Asked → List ℕ
-lineOf q = encode (Request (q .candidate) (q .epoch) (q .config) (q .time)) claimOfSlot0
+lineOf q = encode (requestOf q) claimOfSlot0
 
 -- ---- the table
 
@@ -95,10 +99,10 @@ votesAnswered n (r ∷ rs) =
     let s = onFrame n slots reports (lineOf (r .asked)) in
     voteAnswered (r .asked) s ∷ votesAnswered (s .outcome .node) rs
 
-abbrev pub answered : Row → Row
-answered (key r) = key (keyAnswered r)
-answered (votes rs) = votes (votesAnswered voter rs)
+abbrev pub rowAnswered : Row → Row
+rowAnswered (key r) = key (keyAnswered r)
+rowAnswered (votes rs) = votes (votesAnswered voter rs)
 
 -- what the definitions make of each row is the row
 abbrev pub AllCases : Type 0
-AllCases = map answered rows ≡ rows
+AllCases = map rowAnswered rows ≡ rows

@@ -1,58 +1,56 @@
--- Demand 1, its second half: what a call that is not turned away may change, by kind. What is not named stays.
+-- Demand 1, its second half: what a call that is not turned away changes, by kind. What is not named stays.
 use mathlib.Core.Path.{_≡_}
 use mathlib.Core.Logic.{_⊎_}
-use mathlib.Core.Bool.{false}
+use mathlib.Core.Bool.{Bool, true, false}
 use mathlib.Core.List.{List}
 use Prim.Native.Nat.{ℕ, _+_, _<_}
 use lib.Dec.{T}
-use lib.ListN.{length, getD}
+use lib.ListN.{length, getD, set}
 use Rattle.tables.specs.Sets.{claimed}
+use Rattle.tables.specs.Checks.{allOf}
+use Rattle.nodesets.specs.NodeSets.{added}
+use Rattle.nodesets.specs.declared.NodeSet.{NodeSet}
 use Rattle.answers.specs.declared.Answer.the-variants.{Done, Granted, Won}
-use Rattle.state.specs.Node.{recordAt}
-use Rattle.state.specs.Changes.{withRole, withConfig, withClock, withElection, risen, arrived}
+use Rattle.state.specs.Node.{recordAt, masters, roleAt, followed}
+use Rattle.state.specs.Changes.{withConfig, withPing, withFlag, withRecords, withCurrent, withClock, withElection, onRecord, arrived}
 use Rattle.state.specs.Outcomes.{Stepped}
 use Rattle.state.specs.declared.Node.{Node}
-use Rattle.state.specs.declared.Record.{Record}
 use Rattle.state.specs.declared.Role.{Role}
-use Rattle.state.specs.declared.Role.the-variants.{Master, Replica}
-use Rattle.state.specs.declared.Election.{Election}
+use Rattle.state.specs.declared.Role.the-variants.{Replica}
+use Rattle.state.specs.declared.Moment.the-variants.{Never}
+use Rattle.state.specs.declared.Verdict.{Verdict}
+use Rattle.state.specs.declared.Verdict.the-variants as verdict
+use Rattle.state.specs.declared.Election.the-variants.{Open}
 use Rattle.state.specs.declared.Echo.{Echo}
-use Rattle.state.specs.declared.Echo.the-variants.{Ping}
+use Rattle.state.specs.declared.Echo.the-variants.{Ping, Pong}
 use Rattle.state.specs.declared.Move.{Move}
-use Rattle.frames.specs.declared.Frame.{Frame}
-use Rattle.frames.specs.declared.Frame.the-variants.{NotAFrame, Heartbeat, Report, Fail, Request, Ack, Probe, Tick}
-use Rattle.failure.specs.Failure.{reportAt}
-use Rattle.failure.specs.Keeps.{Kept, PingsOnly, FlagsOnly, OthersKept, EntriesKept}
-use Rattle.state.specs.Node.{roleAt, followed}
+use Rattle.frames.specs.declared.Header.{Header}
+use Rattle.frames.specs.declared.Kind.{Kind}
+use Rattle.frames.specs.declared.Kind.the-variants.{Heartbeat, Report, Fail, Request, Ack, Probe, Tick}
+use Rattle.frames.specs.declared.Decoded.{Decoded}
+use Rattle.frames.specs.declared.Decoded.the-variants.{NotAFrame, Good}
+use Rattle.refusals.specs.Refusals.{turnsAway}
+use Rattle.failure.specs.Failure.{reportAt, flagIfSignalled}
+use Rattle.failure.specs.Keeps.{FlagsOnly}
+use Rattle.probes.specs.Probes.{started, pongFlag, tickFlag}
+use Rattle.reports.specs.Reports.{failFlag}
+use Rattle.heartbeats.specs.Heartbeats.{heardOf, withSender, tied}
 use Rattle.votes.specs.Votes as votes
-use Rattle.elections.specs.Elections.{opens, promoted, passed}
-use Rattle.elections.specs.Elections as elections
-use Rattle.routing.specs.Marks.{ButMarks}
-use Rattle.routing.specs.MarkChanges.{setMark, clearMark, marking, unmarking}
-use Rattle.promises.specs.Refused.{turnsAway}
-
--- ids, roster, marks, T, lastVoteEpoch and the election stay
-pub record BesideRecords (a b : Node) : Type 0 where
-  pub ids : b .ids ≡ a .ids
-  pub marks : b .marks ≡ a .marks
-  pub size : b .size ≡ a .size
-  pub me : b .me ≡ a .me
-  pub marked : b .marked ≡ a .marked
-  pub voted : b .voted ≡ a .voted
-  pub timeout : b .timeout ≡ a .timeout
-  pub election : b .election ≡ a .election
+use Rattle.openings.specs.Openings.{opens, opening}
+use Rattle.acks.specs.Acks.{promoted, passed}
+use Rattle.marks.specs.Marks.{ButMarks}
+use Rattle.marks.specs.MarkChanges.{setMark, clearMark, marking, unmarking}
 
 -- both tables stay
 pub record TablesKept (slots reports : List ℕ) (s : Stepped) : Type 0 where
   pub slots-kept : s .slots ≡ slots
   pub reports-kept : s .reports ≡ reports
 
--- what is recorded of a heartbeat's sender: its role, and of a master the configEpoch risen to the frame's
-abbrev pub heardRecord : Role → ℕ → Record → Record
-heardRecord Master config r = withConfig (risen (r .config) config) (withRole Master r)
-heardRecord (Replica m) config r = withRole (Replica m) r
+-- this node ties with the sender, as the frame makes it known, and gives way
+abbrev pub givesWay : Node → ℕ → Role → ℕ → Bool
+givesWay a sender role config = allOf (tied sender config (withSender sender role config a))
 
--- this node gave way at a tie: currentEpoch went up by 1 and is its configEpoch
+-- it gave way: currentEpoch went up by 1 and is its configEpoch
 pub record Bumped (a b : Node) : Type 0 where
   pub current : b .current ≡ a .current + 1
   pub config : recordAt b (a .me) ≡ withConfig (a .current + 1) (recordAt a (a .me))
@@ -62,18 +60,25 @@ pub record NotBumped (a b : Node) : Type 0 where
   pub current : b .current ≡ a .current
   pub config : recordAt b (a .me) ≡ recordAt a (a .me)
 
--- Each kind by what it may change in the node as it arrives, with the clock at the frame's time and currentEpoch risen.
-module _ (n : Node) (slots reports : List ℕ) (s : Stepped) where
+-- Each kind by what it changes in the node as it arrives, with the clock at the frame's time and currentEpoch risen. A kind
+-- that carries no epoch moves the clock alone.
+module _ (n : Node) (slots reports : List ℕ) (s : Stepped) (h : Header) where
   abbrev after : Node
   after = s .outcome .node
 
+  abbrev arrival : Node
+  arrival = arrived (h .time) (h .epoch) n
+
+  abbrev later : Node
+  later = withClock (h .time) n
+
   -- heartbeat: slots, the sender's role and configEpoch, on a bump currentEpoch and the own configEpoch
-  pub record HeartbeatChanges (bitmap : List ℕ) (sender : ℕ) (role : Role) (current config time : ℕ) : Type 0 where
-    pub kept : BesideRecords n after
-    pub clock : after .clock ≡ time
-    pub sender-heard : recordAt after sender ≡ heardRecord role config (recordAt n sender)
+  pub record HeartbeatChanges (bitmap : List ℕ) (sender : ℕ) (role : Role) : Type 0 where
+    pub rest : after ≡ withRecords (after .records) (withCurrent (after .current) later)
+    pub sender-heard : recordAt after sender ≡ heardOf role (h .config) (recordAt n sender)
     pub others : (k : ℕ) → (k ≡ sender → ⊥) → (k ≡ n .me → ⊥) → recordAt after k ≡ recordAt n k
-    pub own : NotBumped (arrived time current n) after ⊎ Bumped (arrived time current n) after
+    pub bump : givesWay arrival sender role (h .config) ≡ true → Bumped arrival after
+    pub no-bump : givesWay arrival sender role (h .config) ≡ false → NotBumped arrival after
     -- the slot table keeps its length; an entry stays or becomes the sender's, one that is not claimed stays, and a replica's
     -- frame claims nothing
     pub slots-long : length (s .slots) ≡ length slots
@@ -82,59 +87,83 @@ module _ (n : Node) (slots reports : List ℕ) (s : Stepped) where
     pub replica-claims-nothing : (m : ℕ) → role ≡ Replica m → s .slots ≡ slots
     pub reports-kept : s .reports ≡ reports
 
-  -- report: one report entry and the subject's flag
-  pub record ReportChanges (reporter subject time : ℕ) : Type 0 where
-    pub flag : FlagsOnly (withClock time n) after
-    pub others : OthersKept subject n after
-    pub entry : EntriesKept (reportAt subject reporter) reports (s .reports)
+  -- the clock moves, and that is all
+  pub record ClockMoves : Type 0 where
+    pub node : after ≡ later
+    pub tables : TablesKept slots reports s
+
+  -- a report is stored: its entry, the time plus one, and the subject's flag by who signals it then
+  pub record ReportStored (reporter subject : ℕ) : Type 0 where
+    pub node : after ≡ onRecord subject (withFlag (flagIfSignalled later (masters later) (s .reports) subject (recordAt n subject .flag))) later
+    pub entry : s .reports ≡ set reports (reportAt subject reporter) (h .time + 1)
     pub slots-kept : s .slots ≡ slots
 
+  -- report: verdict 0 stores nothing
+  abbrev pub ReportChanges : ℕ → ℕ → Verdict → Type 0
+  ReportChanges reporter subject verdict.Fine = ClockMoves
+  ReportChanges reporter subject verdict.Pfail = ReportStored reporter subject
+  ReportChanges reporter subject verdict.Fail = ReportStored reporter subject
+
   -- fail: the subject's flag
-  pub record FailChanges (subject time : ℕ) : Type 0 where
-    pub flag : FlagsOnly (withClock time n) after
-    pub others : OthersKept subject n after
+  pub record FailChanges (subject : ℕ) : Type 0 where
+    pub node : after ≡ onRecord subject (withFlag (failFlag (h .time) (recordAt n subject .flag))) later
     pub tables : TablesKept slots reports s
 
   -- probe: the subject's ping, and at a pong its flag
-  pub record ProbeChanges (subject : ℕ) (echo : Echo) (time : ℕ) : Type 0 where
-    pub ping-or-flag : Kept (withClock time n) after
-    pub ping-alone : echo ≡ Ping → PingsOnly (withClock time n) after
-    pub others : OthersKept subject n after
+  abbrev pub probedOn : ℕ → Echo → Node
+  probedOn subject Ping = onRecord subject (λ r. withPing (started (h .time) (r .ping)) r) later
+  probedOn subject Pong = onRecord subject (λ r. withPing Never (withFlag (pongFlag later slots subject (r .role) (r .flag)) r)) later
+
+  pub record ProbeChanges (subject : ℕ) (echo : Echo) : Type 0 where
+    pub node : after ≡ probedOn subject echo
     pub tables : TablesKept slots reports s
 
-  -- tick: flags
-  pub record TickChanges (time : ℕ) : Type 0 where
-    pub flags : FlagsOnly (withClock time n) after
+  -- tick: flags, each node's by itself
+  pub record TickChanges : Type 0 where
+    pub flags : FlagsOnly later after
+    pub each : (k : ℕ) → k < n .size → recordAt after k .flag ≡ tickFlag later reports k
     pub tables : TablesKept slots reports s
 
   -- vote request: 10 sets lastVoteEpoch and the vote time of the candidate's master; 11 to 17 nothing more
-  pub record RequestChanges (candidate current time : ℕ) : Type 0 where
-    pub refused : (s .outcome .answer ≡ Granted → ⊥) → after ≡ arrived time current n
-    pub granted : s .outcome .answer ≡ Granted → after ≡ votes.granted (followed (roleAt (arrived time current n) candidate)) current (arrived time current n)
+  pub record RequestChanges (candidate : ℕ) : Type 0 where
+    pub refused : (s .outcome .answer ≡ Granted → ⊥) → after ≡ arrival
+    pub granted : s .outcome .answer ≡ Granted → after ≡ votes.granted (followed (roleAt arrival candidate)) (h .epoch) arrival
     pub tables : TablesKept slots reports s
+
+  -- the open election of the ack's epoch goes on with the voter among those heard
+  pub record Counted (voter : ℕ) : Type 0 where
+    pub opened : ℕ
+    pub voters : NodeSet
+    pub heard : NodeSet
+    pub running : n .election ≡ Open (h .epoch) opened voters heard
+    pub node : after ≡ withElection (Open (h .epoch) opened voters (added heard voter)) arrival
+    pub slots-kept : s .slots ≡ slots
 
   -- ack: 0 changes the election alone; 30 makes this node a master with that epoch, closes the election and passes the
   -- old master's slots; 31 to 36 nothing more
-  pub record AckChanges (epoch time : ℕ) : Type 0 where
-    pub refused : (s .outcome .answer ≡ Done → ⊥) → (s .outcome .answer ≡ Won → ⊥) → (after ≡ arrived time epoch n) × (s .slots ≡ slots)
-    pub counted : s .outcome .answer ≡ Done → ((x : Election) × (after ≡ withElection x (arrived time epoch n))) × (s .slots ≡ slots)
-    pub won : s .outcome .answer ≡ Won → (after ≡ promoted epoch (arrived time epoch n)) × (s .slots ≡ passed (roleAt (arrived time epoch n) (n .me)) (n .me) slots)
+  pub record AckChanges (voter : ℕ) : Type 0 where
+    pub refused : (s .outcome .answer ≡ Done → ⊥) → (s .outcome .answer ≡ Won → ⊥) → (after ≡ arrival) × (s .slots ≡ slots)
+    pub counted : s .outcome .answer ≡ Done → Counted voter
+    pub won : s .outcome .answer ≡ Won → (after ≡ promoted (h .epoch) arrival) × (s .slots ≡ passed (roleAt arrival (n .me)) (n .me) slots)
     pub reports-kept : s .reports ≡ reports
 
-  -- by kind; a line that is no frame is turned away
-  abbrev pub LineChanges : List ℕ → Frame → Type 0
-  LineChanges bitmap NotAFrame = ⊥
-  LineChanges bitmap (Heartbeat sender role current config time) = HeartbeatChanges bitmap sender role current config time
-  LineChanges bitmap (Report reporter subject verdict time) = ReportChanges reporter subject time
-  LineChanges bitmap (Fail sender subject time) = FailChanges subject time
-  LineChanges bitmap (Request candidate current config time) = RequestChanges candidate current time
-  LineChanges bitmap (Ack voter candidate epoch time) = AckChanges epoch time
-  LineChanges bitmap (Probe subject echo time) = ProbeChanges subject echo time
-  LineChanges bitmap (Tick time) = TickChanges time
+  abbrev pub KindChanges : List ℕ → Kind → Type 0
+  KindChanges bitmap (Heartbeat sender role) = HeartbeatChanges bitmap sender role
+  KindChanges bitmap (Report reporter subject said) = ReportChanges reporter subject said
+  KindChanges bitmap (Fail sender subject) = FailChanges subject
+  KindChanges bitmap (Request candidate) = RequestChanges candidate
+  KindChanges bitmap (Ack voter candidate) = AckChanges voter
+  KindChanges bitmap (Probe subject echo) = ProbeChanges subject echo
+  KindChanges bitmap Tick = TickChanges
+
+-- a line by its kind; one that is no frame is turned away
+abbrev pub LineChanges : Node → List ℕ → List ℕ → Stepped → List ℕ → Decoded → Type 0
+LineChanges n slots reports s bitmap NotAFrame = ⊥
+LineChanges n slots reports s bitmap (Good f) = KindChanges n slots reports s (f .header) bitmap (f .kind)
 
 -- opening: 0 opens, any other answer past 1 to 8 (24, 25, 26, 28, 9) moves the clock only
 pub record OpeningChanges (n : Node) (slots : List ℕ) (time : ℕ) : Type 0 where
-  pub opened : opens n slots time .answer ≡ Done → opens n slots time .node ≡ elections.opening (withClock time n)
+  pub opened : opens n slots time .answer ≡ Done → opens n slots time .node ≡ opening (withClock time n)
   pub clock-only : (opens n slots time .answer ≡ Done → ⊥) → (T (turnsAway (opens n slots time .answer)) → ⊥) → opens n slots time .node ≡ withClock time n
 
 -- marks: nothing but the marks

@@ -7,14 +7,17 @@ use lib.ListN.{length, getD}
 use Rattle.tables.specs.Sizes.{slotCount}
 use Rattle.tables.specs.Sets.{claimed}
 use Rattle.answers.specs.Answers.{number}
+use Rattle.answers.specs.declared.Check.the-variants.{Passed}
 use Rattle.state.specs.Node.{recordAt}
 use Rattle.state.specs.Changes.{arrived}
 use Rattle.state.specs.declared.Node.{Node}
 use Rattle.state.specs.declared.Role.the-variants.{Master}
 use Rattle.frames.specs.Frames.{frameOf, bitmapOf}
-use Rattle.frames.specs.declared.Frame.the-variants.{Heartbeat, Request}
+use Rattle.frames.specs.declared.Header.{Header}
+use Rattle.frames.specs.declared.Kind.{Kind}
+use Rattle.frames.specs.declared.Kind.the-variants.{Heartbeat, Request}
+use Rattle.frames.specs.declared.Decoded.the-variants.{Good}
 use Rattle.refusals.specs.Refusals.{refusal}
-use Rattle.answers.specs.declared.Check.the-variants.{Passed}
 use Rattle.votes.specs.Grants.{Grantable}
 use Rattle.node.specs.Step.{onFrame}
 
@@ -22,15 +25,17 @@ module _ (n : Node) (slots reports line : List ℕ) where
   abbrev pub answerTo : ℕ
   answerTo = number (onFrame n slots reports line .outcome .answer)
 
+  -- the line is a frame of that kind with that time and those epochs
+  abbrev pub Reads : Header → Kind → Type 0
+  Reads h kind = frameOf line ≡ Good (record { header = h; kind = kind })
+
   -- a vote request that none of 1 to 8 turns away, and whose conditions hold with clock and currentEpoch risen
   pub record GrantableLine : Type 0 where
+    pub header : Header
     pub candidate : ℕ
-    pub current : ℕ
-    pub config : ℕ
-    pub time : ℕ
-    pub request : frameOf line ≡ Request candidate current config time
+    pub request : Reads header (Request candidate)
     pub passes : refusal n (length slots) (length reports) (frameOf line) ≡ Passed
-    pub conditions : Grantable (arrived time current n) slots (bitmapOf line) candidate current config
+    pub conditions : Grantable (arrived (header .time) (header .epoch) n) slots (bitmapOf line) candidate (header .epoch) (header .config)
 
   -- such a line is answered 10, and no other
   pub record GrantedExactly : Type 0 where
@@ -52,8 +57,8 @@ module _ (n : Node) (slots reports line : List ℕ) where
   -- for a master's heartbeat that is not turned away
   abbrev pub SlotPassesExactly : Type 0
   SlotPassesExactly =
-      (sender current config time : ℕ) → frameOf line ≡ Heartbeat sender Master current config time → answerTo ≡ 0
-      → (s : ℕ) → s < slotCount → getD slots s 0 < n .size → (getD slots s 0 ≡ sender → ⊥) → SlotPasses sender config s
+      (h : Header) (sender : ℕ) → Reads h (Heartbeat sender Master) → answerTo ≡ 0
+      → (s : ℕ) → s < slotCount → getD slots s 0 < n .size → (getD slots s 0 ≡ sender → ⊥) → SlotPasses sender (h .config) s
 
   -- an entry that is no number of the roster goes to the sender exactly when the frame claims it
   pub record UnownedGoes (sender s : ℕ) : Type 0 where
@@ -62,5 +67,5 @@ module _ (n : Node) (slots reports line : List ℕ) where
 
   abbrev pub UnownedGoesExactly : Type 0
   UnownedGoesExactly =
-      (sender current config time : ℕ) → frameOf line ≡ Heartbeat sender Master current config time → answerTo ≡ 0
+      (h : Header) (sender : ℕ) → Reads h (Heartbeat sender Master) → answerTo ≡ 0
       → (s : ℕ) → s < slotCount → n .size ≤ getD slots s 0 → UnownedGoes sender s

@@ -1,23 +1,16 @@
 -- Demand 1, its first half: an answer that turns a call away leaves everything as it was handed in.
 use mathlib.Core.Path.{_≡_}
-use mathlib.Core.Bool.{Bool}
-use mathlib.Core.List.{List, [], _∷_}
+use mathlib.Core.List.{List}
 use Prim.Native.Nat.{ℕ}
-use lib.Dec.{leb, T}
-use Rattle.tables.specs.Checks.{allOf}
-use Rattle.answers.specs.Answers.{number}
-use Rattle.answers.specs.declared.Answer.{Answer}
+use lib.Dec.{T}
 use Rattle.answers.specs.declared.Answer.the-variants.{Done}
 use Rattle.state.specs.Outcomes.{Stepped}
 use Rattle.state.specs.declared.Node.{Node}
 use Rattle.state.specs.declared.Move.{Move}
-use Rattle.elections.specs.Elections.{opens}
-use Rattle.routing.specs.MarkChanges.{setMark, clearMark}
+use Rattle.marks.specs.MarkChanges.{setMark, clearMark}
+use Rattle.refusals.specs.Refusals.{turnsAway}
+use Rattle.openings.specs.Openings.{opens}
 use Rattle.node.specs.Step.{onFrame}
-
--- 1 to 8
-abbrev pub turnsAway : Answer → Bool
-turnsAway a = allOf (leb 1 (number a) ∷ leb (number a) 8 ∷ [])
 
 -- the node and both tables are what was handed in
 pub record Unchanged (n : Node) (slots reports : List ℕ) (s : Stepped) : Type 0 where
@@ -25,7 +18,7 @@ pub record Unchanged (n : Node) (slots reports : List ℕ) (s : Stepped) : Type 
   pub slots-kept : s .slots ≡ slots
   pub reports-kept : s .reports ≡ reports
 
--- for every node, tables and arguments; a mark's refusal is any answer but 0
+-- for every node, tables and arguments; 1 to 8 turn a line and an opening away, and a mark's refusal is any answer but 0
 pub record TurnedAwayChangesNothing (n : Node) : Type 0 where
   pub line : (slots reports line : List ℕ) → T (turnsAway (onFrame n slots reports line .outcome .answer)) → Unchanged n slots reports (onFrame n slots reports line)
   pub opening : (slots : List ℕ) (time : ℕ) → T (turnsAway (opens n slots time .answer)) → opens n slots time .node ≡ n

@@ -6,11 +6,11 @@ use Rattle.answers.specs.declared.Answer.the-variants.{WrongLength, Unsound}
 use Rattle.state.specs.Outcomes.{answered}
 use Rattle.state.specs.declared.Node.{Node}
 use Rattle.soundness.specs.Sound.{sound}
-use Rattle.safety.specs.Calls.{Call, outcome}
+use Rattle.node.specs.Calls.{Tables, Call, outcome}
 
--- a call is a frame of any kind, well formed or not, an opening, the setting or the clearing of a mark
-abbrev pub EveryCallKeepsSound : Node → Call → Type 0
-EveryCallKeepsSound n c = sound n ≡ true → sound (outcome n c .node) ≡ true
+-- a call is a frame of any kind, well formed or not, an opening, the setting or the clearing of a mark; the tables are any
+abbrev pub EveryCallKeepsSound : Node → Tables → Call → Type 0
+EveryCallKeepsSound n t c = sound n ≡ true → sound (outcome n t c .node) ≡ true
 
-abbrev pub UnsoundStays : Node → Call → Type 0
-UnsoundStays n c = sound n ≡ false → (outcome n c ≡ answered n Unsound) ⊎ (outcome n c ≡ answered n WrongLength)
+abbrev pub UnsoundStays : Node → Tables → Call → Type 0
+UnsoundStays n t c = sound n ≡ false → (outcome n t c ≡ answered n Unsound) ⊎ (outcome n t c ≡ answered n WrongLength)

@@ -17,29 +17,31 @@ use Rattle.tables.specs.Below.{every}
 use Rattle.tables.specs.Lists.{mapFrom, firstFrom, firstAt}
 use Rattle.tables.specs.Sets.{claimed, wordOf, wordsFrom}
 use Rattle.tables.specs.declared.Found.{Found}
-use Rattle.tables.specs.declared.Found.the-variants.{Nothing, At}
+use Rattle.tables.specs.declared.Found.the-variants.{Nothing}
+use Rattle.nodesets.specs.NodeSets.{gathered}
 use Rattle.answers.specs.Answers.{number}
 use Rattle.state.specs.Node.{recordAt, listed}
-use Rattle.state.specs.Changes.{withRecord, withCurrent, withVoted, withClock, withElection, arrived}
-use Rattle.state.specs.Fresh.{freshNode}
+use Rattle.state.specs.Changes.{withRecords, withCurrent, withVoted, withClock, withElection, arrived}
 use Rattle.state.specs.declared.Node.{Node}
 use Rattle.soundness.specs.Sound.{arraysWhole, boundsKept, before, idsAscend, recordsSound, electionSound, marksAscend, marksSound, ownClear, sound}
-use Rattle.frames.specs.Hex.{isDigit, digit, allDigits, byteAt, numberAt}
+use Rattle.fresh.specs.Fresh.{freshNode}
+use Rattle.hex.specs.Hex.{isDigit, digit, allDigits, byteAt, numberAt, character, hex, bytesOf}
 use Rattle.frames.specs.Frames.{frameOf, bitmapOf}
-use Rattle.frames.specs.Lines.{character, hex, bytesOf, encode}
-use Rattle.frames.specs.declared.Frame.the-variants.{Request}
-use Rattle.refusals.specs.Refusals.{isUnlisted, followsItself, namesThisNode, isBeyond, frameRefusals, refusals}
-use Rattle.failure.specs.Failure.{failed}
-use Rattle.votes.specs.Votes.{requested, newer, settled}
+use Rattle.frames.specs.Lines.{encode}
+use Rattle.frames.specs.declared.Kind.the-variants.{Request}
+use Rattle.refusals.specs.Refusals.{isBeyond, frameRefusals, refusals}
+use Rattle.reports.specs.Reports.{failed}
+use Rattle.heartbeats.specs.Heartbeats.{withSender, heartbeat}
 use Rattle.votes.specs.Votes as votes
-use Rattle.elections.specs.Elections as elections
-use Rattle.elections.specs.Elections.{opens, promoted, acked}
-use Rattle.ownership.specs.Heartbeat.{told, heartbeat}
+use Rattle.votes.specs.Votes.{newer, byOwners, requested}
+use Rattle.openings.specs.Openings as openings
+use Rattle.openings.specs.Openings.{opens}
+use Rattle.acks.specs.Acks.{promoted, acked}
 use Rattle.node.specs.Step.{onKind, onFrame}
-use Rattle.safety.specs.Deeds.{Deed, granted, counted, won, opened, told as tells, other, Did, Has, Counted, Won, votingSet}
-use Rattle.safety.specs.Calls.{frameDeed}
+use Rattle.safety.specs.Deeds.{Deed, granted, counted, won, opened, announced, other, Did, Has, Counted, Won, votingSet}
+use Rattle.safety.specs.Calls.{kindDeed}
 use Rattle.safety.specs.Demand3.{masterBy, SameSet, Made, stateOf, AllGranted}
-use Rattle.safety.specs.Examples.{roster, timeouts, past, failLine, requestLine, gets, winning, differing, differing3, differing4, madeUp, beforeWin, ANodeWins, SetsThatDiffer, AcksMadeUp, Examples}
+use Rattle.safety.specs.Examples.{roster, timeouts, deeds, failLine, requestLine, gets, winning, differing, differing3, differing4, madeUp, beforeWin, ANodeWins, SetsThatDiffer, AcksMadeUp, Examples}
 
 -- ---- a vote request: no owner in the lent table has a configEpoch above 0, whatever the bitmap claims
 
@@ -67,23 +69,23 @@ informed v s = stateOf roster timeouts (gets v (failLine s) ∷ []) v
 
 -- what it did once the request of c was answered, by what the look at the table finds
 abbrev voter : ℕ → ℕ → ℕ → Found → List Deed
-voter v s c x = frameDeed (Request c 1 0 0) (number (settled (arrived 0 1 (informed v s)) 0 1 x .answer)) ∷ other ∷ []
+voter v s c x = kindDeed (record { time = 0; epoch = 1; config = 0 }) (Request c) (number (byOwners (arrived 0 1 (informed v s)) 0 1 x .answer)) ∷ other ∷ []
 
 -- ---- what each node did
 
-record Pasts : Type 0 where
-  winner : past winning 3 ≡ won 2 1 ∷ beforeWin
-  winner-voter1 : past winning 1 ≡ granted 1 3 ∷ other ∷ []
-  winner-voter2 : past winning 2 ≡ granted 1 3 ∷ other ∷ []
-  first : past differing 3 ≡ won 1 1 ∷ differing3
-  second : past differing 4 ≡ won 2 1 ∷ differing4
-  first-voter : past differing 1 ≡ granted 1 3 ∷ other ∷ []
-  second-voter : past differing 2 ≡ granted 1 4 ∷ other ∷ []
-  loser : past madeUp 4 ≡ won 2 1 ∷ beforeWin
+record Lives : Type 0 where
+  winner : deeds winning 3 ≡ won 2 1 ∷ beforeWin
+  winner-voter1 : deeds winning 1 ≡ granted 1 3 ∷ other ∷ []
+  winner-voter2 : deeds winning 2 ≡ granted 1 3 ∷ other ∷ []
+  first : deeds differing 3 ≡ won 1 1 ∷ differing3
+  second : deeds differing 4 ≡ won 2 1 ∷ differing4
+  first-voter : deeds differing 1 ≡ granted 1 3 ∷ other ∷ []
+  second-voter : deeds differing 2 ≡ granted 1 4 ∷ other ∷ []
+  loser : deeds madeUp 4 ≡ won 2 1 ∷ beforeWin
 
-pasts : Pasts
-unfolding every mapFrom wordOf wordsFrom withRecord withCurrent withVoted withClock withElection freshNode arraysWhole boundsKept before idsAscend recordsSound electionSound marksAscend marksSound ownClear sound isDigit digit allDigits byteAt numberAt frameOf isUnlisted followsItself namesThisNode isBeyond frameRefusals refusals failed requested votes.granted elections.opening opens promoted acked told heartbeat onKind onFrame character hex bytesOf encode ones winning differing madeUp firstFrom
-pasts = record {
+lives : Lives
+unfolding every mapFrom wordOf wordsFrom firstFrom gathered withRecords withCurrent withVoted withClock withElection arraysWhole boundsKept before idsAscend recordsSound electionSound marksAscend marksSound ownClear sound freshNode isDigit digit allDigits byteAt numberAt character hex bytesOf frameOf encode isBeyond frameRefusals refusals failed withSender heartbeat votes.granted requested openings.opening opens promoted acked onKind onFrame ones winning differing madeUp
+lives = record {
   winner = refl;
   winner-voter1 = ap (voter 1 2 3) (none-newer (arrived 0 1 (informed 1 2)) (bitmapOf (requestLine 3)) 16383 refl refl);
   winner-voter2 = ap (voter 2 1 3) (none-newer (arrived 0 1 (informed 2 1)) (bitmapOf (requestLine 3)) 16383 refl refl);
@@ -96,9 +98,9 @@ pasts = record {
 
 -- in the last list the others do what they did in the first
 record Still : Type 0 where
-  winner : past madeUp 3 ≡ past winning 3
-  voter1 : past madeUp 1 ≡ past winning 1
-  voter2 : past madeUp 2 ≡ past winning 2
+  winner : deeds madeUp 3 ≡ deeds winning 3
+  voter1 : deeds madeUp 1 ≡ deeds winning 1
+  voter2 : deeds madeUp 2 ≡ deeds winning 2
 
 still : Still
 unfolding madeUp
@@ -112,7 +114,7 @@ ackOf (granted e c) = 0
 ackOf (counted v e) = suc v
 ackOf (won v e) = suc v
 ackOf opened = 0
-ackOf (tells s m) = 0
+ackOf (announced s m) = 0
 ackOf other = 0
 
 did-ack : (d : Deed) (h : List Deed) → Did d h → Has (ackOf d) (map ackOf h)
@@ -130,20 +132,20 @@ no-ack v (suc k) (inl p) = omega (arith, p)
 no-ack v (suc k) (inr h) = no-ack v k h
 
 -- the one voter whose ack was counted granted what it acked
-one-ack : (ms : List Made) (a u k : ℕ) → map ackOf (past ms a) ≡ suc u ∷ replicate k 0 → Did (granted 1 a) (past ms u) → AllGranted roster timeouts ms a 1
-one-ack ms a u k e g v c = go (subst (Has (suc v)) e (counted-ack v 1 (past ms a) c))
+one-ack : (ms : List Made) (a u k : ℕ) → map ackOf (deeds ms a) ≡ suc u ∷ replicate k 0 → Did (granted 1 a) (deeds ms u) → AllGranted roster timeouts ms a 1
+one-ack ms a u k e g v c = go (subst (Has (suc v)) e (counted-ack v 1 (deeds ms a) c))
   where
-    go : Has (suc v) (suc u ∷ replicate k 0) → Did (granted 1 a) (past ms v)
-    go (inl p) = subst (λ (x : ℕ). Did (granted 1 a) (past ms x)) (omega (arith, p)) g
+    go : Has (suc v) (suc u ∷ replicate k 0) → Did (granted 1 a) (deeds ms v)
+    go (inl p) = subst (λ (x : ℕ). Did (granted 1 a) (deeds ms x)) (omega (arith, p)) g
     go (inr h) = absurd (no-ack v k h)
 
 -- and so did each of the two
-two-acks : (ms : List Made) (a u w k : ℕ) → map ackOf (past ms a) ≡ suc u ∷ suc w ∷ replicate k 0 → Did (granted 1 a) (past ms u) → Did (granted 1 a) (past ms w) → AllGranted roster timeouts ms a 1
-two-acks ms a u w k e g g′ v c = go (subst (Has (suc v)) e (counted-ack v 1 (past ms a) c))
+two-acks : (ms : List Made) (a u w k : ℕ) → map ackOf (deeds ms a) ≡ suc u ∷ suc w ∷ replicate k 0 → Did (granted 1 a) (deeds ms u) → Did (granted 1 a) (deeds ms w) → AllGranted roster timeouts ms a 1
+two-acks ms a u w k e g g′ v c = go (subst (Has (suc v)) e (counted-ack v 1 (deeds ms a) c))
   where
-    go : Has (suc v) (suc u ∷ suc w ∷ replicate k 0) → Did (granted 1 a) (past ms v)
-    go (inl p) = subst (λ (x : ℕ). Did (granted 1 a) (past ms x)) (omega (arith, p)) g
-    go (inr (inl p)) = subst (λ (x : ℕ). Did (granted 1 a) (past ms x)) (omega (arith, p)) g′
+    go : Has (suc v) (suc u ∷ suc w ∷ replicate k 0) → Did (granted 1 a) (deeds ms v)
+    go (inl p) = subst (λ (x : ℕ). Did (granted 1 a) (deeds ms x)) (omega (arith, p)) g
+    go (inr (inl p)) = subst (λ (x : ℕ). Did (granted 1 a) (deeds ms x)) (omega (arith, p)) g′
     go (inr (inr h)) = absurd (no-ack v k h)
 
 -- the last thing that was done was done
@@ -156,13 +158,13 @@ won-last e v h before p = subst (λ (x : List Deed). Won e x before) (sym p) (in
 -- ---- the examples
 
 a-node-wins : ANodeWins
-a-node-wins = record { candidate = pasts .winner; voter1 = pasts .winner-voter1; voter2 = pasts .winner-voter2 }
+a-node-wins = record { candidate = lives .winner; voter1 = lives .winner-voter1; voter2 = lives .winner-voter2 }
 
 sets-that-differ : SetsThatDiffer
 sets-that-differ = record {
-  both = record { first = won-last 1 1 _ _ (pasts .first); second = won-last 1 2 _ _ (pasts .second) };
-  granted3 = one-ack differing 3 1 4 (ap (map ackOf) (pasts .first)) (did-last _ _ _ (pasts .first-voter));
-  granted4 = one-ack differing 4 2 4 (ap (map ackOf) (pasts .second)) (did-last _ _ _ (pasts .second-voter));
+  both = record { first = won-last 1 1 _ _ (lives .first); second = won-last 1 2 _ _ (lives .second) };
+  granted3 = one-ack differing 3 1 4 (ap (map ackOf) (lives .first)) (did-last _ _ _ (lives .first-voter));
+  granted4 = one-ack differing 4 2 4 (ap (map ackOf) (lives .second)) (did-last _ _ _ (lives .second-voter));
   in3 = refl;
   not-in4 = refl;
 }
@@ -188,7 +190,7 @@ grantedTo (granted e c) = c
 grantedTo (counted v e) = 0
 grantedTo (won v e) = 0
 grantedTo opened = 0
-grantedTo (tells s m) = 0
+grantedTo (announced s m) = 0
 grantedTo other = 0
 
 to-another : Did (granted 1 4) (granted 1 3 ∷ other ∷ []) → ⊥
@@ -198,18 +200,18 @@ to-another (inr (inr p)) = p
 
 acks-made-up : AcksMadeUp
 acks-made-up = record {
-  both = record { first = won-last 1 2 _ _ winner; second = won-last 1 2 _ _ (pasts .loser) };
+  both = record { first = won-last 1 2 _ _ winner; second = won-last 1 2 _ _ (lives .loser) };
   sets = same-set;
-  granted3 = two-acks madeUp 3 2 1 2 (ap (map ackOf) winner) (did-last _ _ _ (still .voter2 ∙ pasts .winner-voter2)) (did-last _ _ _ voter1);
-  counted4 = inl (subst (Did (counted 1 1)) (sym (pasts .loser)) (inr (inl refl)));
+  granted3 = two-acks madeUp 3 2 1 2 (ap (map ackOf) winner) (did-last _ _ _ (still .voter2 ∙ lives .winner-voter2)) (did-last _ _ _ voter1);
+  counted4 = inl (subst (Did (counted 1 1)) (sym (lives .loser)) (inr (inl refl)));
   ungranted = λ d. to-another (subst (Did (granted 1 4)) voter1 d);
 }
   where
-    winner : past madeUp 3 ≡ won 2 1 ∷ beforeWin
-    winner = still .winner ∙ pasts .winner
+    winner : deeds madeUp 3 ≡ won 2 1 ∷ beforeWin
+    winner = still .winner ∙ lives .winner
 
-    voter1 : past madeUp 1 ≡ granted 1 3 ∷ other ∷ []
-    voter1 = still .voter1 ∙ pasts .winner-voter1
+    voter1 : deeds madeUp 1 ≡ granted 1 3 ∷ other ∷ []
+    voter1 = still .voter1 ∙ lives .winner-voter1
 
 pub examples : Examples
 examples = record { wins = a-node-wins; differ = sets-that-differ; made-up = acks-made-up }

@@ -9,7 +9,7 @@ use native.Mathlib.Nat.{max-eq-left, le-max-left, le-max-right, le-trans}
 use native.Mathlib.Omega.{arith}
 use lib.Dec.{eqb}
 use borrow.Author.Tests.{eqb-true, ne-eqb}
-use Rattle.safety.specs.Deeds.{Deed, granted, counted, won, opened, told, other, Did, grantOf, grants, Has, NoneTwice, greatest, Counted, Won, isOpening, tells, listedMaster, votingSet}
+use Rattle.safety.specs.Deeds.{Deed, granted, counted, won, opened, announced, other, Did, grantOf, grants, Has, NoneTwice, greatest, Counted, Won, isOpening, listedAfter, listedMaster, votingSet}
 use Rattle.tables.proofs.Sets.{Majority}
 
 -- ---- what is looked at in a node's state
@@ -96,7 +96,7 @@ Moves n a s (granted e c) s′ = Grants e s s′
 Moves n a s (counted u e) s′ = Counts u e s s′
 Moves n a s (won u e) s′ = Wins n u e s s′
 Moves n a s opened s′ = Opens s s′
-Moves n a s (told u b) s′ = Lists a u b s s′
+Moves n a s (announced u b) s′ = Lists a u b s s′
 Moves n a s other s′ = Rests s s′
 
 -- a node starts with no vote, no poll and the masters of the roster
@@ -171,7 +171,7 @@ module _ (n : ℕ) (roster : ℕ → Bool) (a : ℕ) where
   set-still (counted v e) h k o = refl
   set-still (won v e) h k o = refl
   set-still opened h k o = absurd (true≢false o)
-  set-still (told u b) h k o = refl
+  set-still (announced u b) h k o = refl
   set-still other h k o = refl
 
   -- and so leaves a poll right
@@ -199,7 +199,7 @@ module _ (n : ℕ) (roster : ℕ → Bool) (a : ℕ) where
       )
 
   -- the masters are as they were, and the deed lists none
-  masters-still : (d : Deed) (h : List Deed) (s s′ : View) → ((k : ℕ) (b : Bool) → tells d k b ≡ b) → Same (s .masters) (s′ .masters)
+  masters-still : (d : Deed) (h : List Deed) (s s′ : View) → ((k : ℕ) (b : Bool) → listedAfter d k b ≡ b) → Same (s .masters) (s′ .masters)
       → ((k : ℕ) → s .masters k ≡ cond (eqb k a) false (listedMaster roster h k)) → (k : ℕ) → s′ .masters k ≡ cond (eqb k a) false (listedMaster roster (d ∷ h) k)
   masters-still d h s s′ l same ms k = same k ∙ ms k ∙ rw (l k (listedMaster roster h k))
 
@@ -237,10 +237,10 @@ module _ (n : ℕ) (roster : ℕ → Bool) (a : ℕ) where
     poll = rw (m .poll) (λ k. m .voters k ∙ i .masters k, λ k t. absurd (true≢false (sym t ∙ m .none k)));
     masters = masters-still opened h s s′ (λ k b. refl) (m .masters) (i .masters);
   }
-  step (told u b) h s s′ i m = record {
+  step (announced u b) h s s′ i m = record {
     once = i .once;
     vote = m .vote ∙ i .vote;
-    poll = poll-kept (told u b) h (s .poll) (s′ .poll) refl (i .poll) (m .poll);
+    poll = poll-kept (announced u b) h (s .poll) (s′ .poll) refl (i .poll) (m .poll);
     masters = λ k. m .masters k ∙ lists-another u k b (listedMaster roster h k) (s .masters k) (m .another) (i .masters k);
   }
   step other h s s′ i m = record {
@@ -261,7 +261,7 @@ module _ (n : ℕ) (roster : ℕ → Bool) (a : ℕ) where
   vote-rises (counted u e) s s′ m = omega (arith, m .vote)
   vote-rises (won u e) s s′ m = omega (arith, m .vote)
   vote-rises opened s s′ m = omega (arith, m .vote)
-  vote-rises (told u b) s s′ m = omega (arith, m .vote)
+  vote-rises (announced u b) s s′ m = omega (arith, m .vote)
   vote-rises other s s′ m = omega (arith, m .vote)
 
   -- a win stays one, whatever is done later

@@ -1,52 +1,39 @@
--- The calls of demand 3 on one node, and what each comes to: document 01, "The lists of demand 3".
+-- What each call of demand 3 comes to: document 01, "The lists of demand 3". The calls themselves are node's (`Calls`).
 use Prim.Native.Nat.{ℕ}
 use mathlib.Core.Bool.{cond}
-use mathlib.Core.List.{List}
 use lib.Dec.{eqb}
 use Rattle.answers.specs.Answers.{number}
 use Rattle.state.specs.Node.{isMaster}
 use Rattle.state.specs.declared.Node.{Node}
-use Rattle.state.specs.declared.Outcome.{Outcome}
-use Rattle.state.specs.declared.Move.{Move}
 use Rattle.frames.specs.Frames.{frameOf}
-use Rattle.frames.specs.declared.Frame.{Frame}
-use Rattle.frames.specs.declared.Frame.the-variants.{NotAFrame, Heartbeat, Report, Fail, Request, Ack, Probe, Tick}
-use Rattle.routing.specs.MarkChanges.{setMark, clearMark}
-use Rattle.elections.specs.Elections.{opens}
-use Rattle.node.specs.Step.{onFrame}
-use Rattle.safety.specs.Deeds.{Deed, granted, counted, won, opened, told, other}
-
--- a call's arguments other than the state, with the tables lent: all of them anything at all
-pub data Call : Type 0 where
-  frame : (slots reports line : List ℕ) → Call
-  opening : (slots : List ℕ) (time : ℕ) → Call
-  setting : (slots : List ℕ) (slot : ℕ) (move : Move) → Call
-  clearing : (slot : ℕ) → Call
-
--- what the promises of the functions say that it answers, and the state that it leaves
-abbrev pub outcome : Node → Call → Outcome
-outcome n (frame slots reports line) = onFrame n slots reports line .outcome
-outcome n (opening slots time) = opens n slots time
-outcome n (setting slots slot move) = setMark n slots slot move
-outcome n (clearing slot) = clearMark n slot
+use Rattle.frames.specs.declared.Header.{Header}
+use Rattle.frames.specs.declared.Kind.{Kind}
+use Rattle.frames.specs.declared.Kind.the-variants.{Heartbeat, Report, Fail, Request, Ack, Probe, Tick}
+use Rattle.frames.specs.declared.Decoded.{Decoded}
+use Rattle.frames.specs.declared.Decoded.the-variants.{NotAFrame, Good}
+use Rattle.node.specs.Calls.{Tables, Call, frame, opening, setting, clearing, outcome}
+use Rattle.safety.specs.Deeds.{Deed, granted, counted, won, opened, announced, other}
 
 -- what a frame came to, by its answer's number
-abbrev pub frameDeed : Frame → ℕ → Deed
+abbrev pub kindDeed : Header → Kind → ℕ → Deed
+kindDeed h (Heartbeat sender role) a = cond (eqb a 0) (announced sender (isMaster role)) other
+kindDeed h (Report reporter subject verdict) a = other
+kindDeed h (Fail sender subject) a = other
+kindDeed h (Request candidate) a = cond (eqb a 10) (granted (h .epoch) candidate) other
+kindDeed h (Ack voter candidate) a = cond (eqb a 30) (won voter (h .epoch)) (cond (eqb a 0) (counted voter (h .epoch)) other)
+kindDeed h (Probe subject echo) a = other
+kindDeed h Tick a = other
+
+abbrev pub frameDeed : Decoded → ℕ → Deed
 frameDeed NotAFrame a = other
-frameDeed (Heartbeat sender role current config time) a = cond (eqb a 0) (told sender (isMaster role)) other
-frameDeed (Report reporter subject verdict time) a = other
-frameDeed (Fail sender subject time) a = other
-frameDeed (Request candidate current config time) a = cond (eqb a 10) (granted current candidate) other
-frameDeed (Ack voter candidate epoch time) a = cond (eqb a 30) (won voter epoch) (cond (eqb a 0) (counted voter epoch) other)
-frameDeed (Probe subject echo time) a = other
-frameDeed (Tick time) a = other
+frameDeed (Good f) a = kindDeed (f .header) (f .kind) a
 
 -- what a call came to, from its arguments and its answer's number alone
 abbrev pub deedOf : Call → ℕ → Deed
-deedOf (frame slots reports line) a = frameDeed (frameOf line) a
-deedOf (opening slots time) a = cond (eqb a 0) opened other
-deedOf (setting slots slot move) a = other
+deedOf (frame line) a = frameDeed (frameOf line) a
+deedOf (opening time) a = cond (eqb a 0) opened other
+deedOf (setting slot move) a = other
 deedOf (clearing slot) a = other
 
-abbrev pub deed : Node → Call → Deed
-deed n c = deedOf c (number (outcome n c .answer))
+abbrev pub deed : Node → Tables → Call → Deed
+deed n t c = deedOf c (number (outcome n t c .answer))

@@ -16,7 +16,7 @@ pub data Deed : Type 0 where
   -- an opening answered 0
   opened : Deed
   -- a heartbeat answered 0, which says whether its sender is a master
-  told : (sender : ℕ) (master : Bool) → Deed
+  announced : (sender : ℕ) (master : Bool) → Deed
   other : Deed
 
 -- A history is what one node did, the latest first.
@@ -33,7 +33,7 @@ grantOf (granted e c) = e ∷ []
 grantOf (counted v e) = []
 grantOf (won v e) = []
 grantOf opened = []
-grantOf (told s m) = []
+grantOf (announced s m) = []
 grantOf other = []
 
 abbrev pub grants : List Deed → List ℕ
@@ -71,7 +71,7 @@ isOpening (granted e c) = false
 isOpening (counted v e) = false
 isOpening (won v e) = false
 isOpening opened = true
-isOpening (told s m) = false
+isOpening (announced s m) = false
 isOpening other = false
 
 -- what was done before the last opening
@@ -80,17 +80,17 @@ beforeOpening [] = []
 beforeOpening (d ∷ h) = cond (isOpening d) h (beforeOpening h)
 
 -- is k listed as a master: by the last heartbeat that names it as sender or, with no such heartbeat, by the roster
-abbrev pub tells : Deed → ℕ → Bool → Bool
-tells (granted e c) k was = was
-tells (counted v e) k was = was
-tells (won v e) k was = was
-tells opened k was = was
-tells (told s m) k was = cond (eqb s k) m was
-tells other k was = was
+abbrev pub listedAfter : Deed → ℕ → Bool → Bool
+listedAfter (granted e c) k was = was
+listedAfter (counted v e) k was = was
+listedAfter (won v e) k was = was
+listedAfter opened k was = was
+listedAfter (announced s m) k was = cond (eqb s k) m was
+listedAfter other k was = was
 
 abbrev pub listedMaster : (ℕ → Bool) → List Deed → ℕ → Bool
 listedMaster roster [] k = roster k
-listedMaster roster (d ∷ h) k = tells d k (listedMaster roster h k)
+listedMaster roster (d ∷ h) k = listedAfter d k (listedMaster roster h k)
 
 -- the set of the election that node a has open after that history: the others that were listed as masters at its opening
 abbrev pub votingSet : (ℕ → Bool) → ℕ → List Deed → ℕ → Bool

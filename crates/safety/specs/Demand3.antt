@@ -6,13 +6,14 @@ use Prim.Native.Nat.{ℕ, _≤_}
 use lib.Dec.{eqb, ltb}
 use lib.ListN.{getD}
 use Rattle.state.specs.Node.{isMaster}
-use Rattle.state.specs.Fresh.{freshNode}
 use Rattle.state.specs.declared.NodeId.{NodeId}
 use Rattle.state.specs.declared.Node.{Node}
 use Rattle.state.specs.declared.Role.{Role}
 use Rattle.state.specs.declared.Role.the-variants.{Master}
+use Rattle.fresh.specs.Fresh.{freshNode}
+use Rattle.node.specs.Calls.{Tables, Call, outcome}
 use Rattle.safety.specs.Deeds.{Deed, granted, Did, grants, NoneTwice, greatest, Counted, Won, votingSet}
-use Rattle.safety.specs.Calls.{Call, outcome, deed}
+use Rattle.safety.specs.Calls.{deed}
 
 -- the ids, and who is master or replica of whom
 pub record Roster : Type 0 where
@@ -28,22 +29,24 @@ masterBy r k = cond (ltb k (r .size)) (isMaster (getD (r .roles) k Master)) fals
 abbrev pub SameSet : Roster → ℕ → List Deed → ℕ → List Deed → Type 0
 SameSet r a beforeA b beforeB = (k : ℕ) → votingSet (masterBy r) a beforeA k ≡ votingSet (masterBy r) b beforeB k
 
--- one entry of a list: the node that the call is made on, and the call
+-- one entry of a list: the node that the call is made on, its arguments other than the state, and the tables lent, all of them
+-- anything at all
 pub record Made : Type 0 where
   pub on : ℕ
   pub call : Call
+  pub lent : Tables
 
 -- A list of calls has the latest first. A node starts fresh from the roster, with a timeout of its own, and each call gets
 -- the state that the same node's last call left.
 module _ (r : Roster) (timeouts : ℕ → ℕ) where
   abbrev pub stateOf : List Made → ℕ → Node
   stateOf [] v = freshNode (r .ids) (r .roles) (r .size) v (timeouts v)
-  stateOf (m ∷ ms) v = cond (eqb (m .on) v) (outcome (stateOf ms v) (m .call) .node) (stateOf ms v)
+  stateOf (m ∷ ms) v = cond (eqb (m .on) v) (outcome (stateOf ms v) (m .lent) (m .call) .node) (stateOf ms v)
 
   -- what node v did, the latest first
   abbrev pub history : List Made → ℕ → List Deed
   history [] v = []
-  history (m ∷ ms) v = cond (eqb (m .on) v) (deed (stateOf ms v) (m .call) ∷ history ms v) (history ms v)
+  history (m ∷ ms) v = cond (eqb (m .on) v) (deed (stateOf ms v) (m .lent) (m .call) ∷ history ms v) (history ms v)
 
   -- the second proviso, for candidate a: the voter of each ack that it counted for that epoch granted that epoch to it
   abbrev pub AllGranted : List Made → ℕ → ℕ → Type 0

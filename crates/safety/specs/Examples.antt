@@ -9,10 +9,11 @@ use lib.ListN.{replicate}
 use Rattle.tables.specs.Sizes.{reportCount, unowned}
 use Rattle.state.specs.declared.Role.the-variants.{Replica}
 use Rattle.frames.specs.Lines.{encode}
-use Rattle.frames.specs.declared.Frame.the-variants.{Heartbeat, Fail, Request, Ack}
+use Rattle.frames.specs.declared.Kind.{Kind}
+use Rattle.frames.specs.declared.Kind.the-variants.{Heartbeat, Fail, Request, Ack}
 use Rattle.cases.specs.Cases.{ids, roles}
-use Rattle.safety.specs.Deeds.{Deed, granted, counted, won, opened, told, other, Did, Counted, Won, votingSet}
-use Rattle.safety.specs.Calls.{frame, opening}
+use Rattle.node.specs.Calls.{Tables, frame, opening}
+use Rattle.safety.specs.Deeds.{Deed, granted, counted, won, opened, announced, other, Did, Counted, Won, votingSet}
 use Rattle.safety.specs.Demand3.{Roster, masterBy, SameSet, Made, history, AllGranted}
 
 -- ---- the roster
@@ -25,43 +26,40 @@ abbrev pub timeouts : ℕ → ℕ
 timeouts v = 1000
 
 -- what a node did
-abbrev pub past : List Made → ℕ → List Deed
-past ms v = history roster timeouts ms v
+abbrev pub deeds : List Made → ℕ → List Deed
+deeds ms v = history roster timeouts ms v
 
--- ---- lines: configEpochs and times are 0, and bitmaps claim nothing
+-- ---- lines: configEpochs and times are 0, and the bitmaps of kinds 1 and 4 claim nothing
 
-abbrev pub claimless : List ℕ
-claimless = replicate 2048 0
+abbrev pub lineOf : ℕ → Kind → List ℕ
+lineOf epoch kind = encode (record { header = record { time = 0; epoch = epoch; config = 0 }; kind = kind }) (replicate 2048 0)
 
 -- the sender is a replica of node 3 now
 abbrev pub replicaLine : ℕ → List ℕ
-replicaLine sender = encode (Heartbeat sender (Replica 3) 0 0 0) claimless
+replicaLine sender = lineOf 0 (Heartbeat sender (Replica 3))
 
 -- node 0 is FAIL
 abbrev pub failLine : ℕ → List ℕ
-failLine sender = encode (Fail sender 0 0) []
+failLine sender = lineOf 0 (Fail sender 0)
 
 -- a vote for epoch 1, asked for and given
 abbrev pub requestLine : ℕ → List ℕ
-requestLine candidate = encode (Request candidate 1 0 0) claimless
+requestLine candidate = lineOf 1 (Request candidate)
 
 abbrev pub ackLine : ℕ → ℕ → List ℕ
-ackLine voter candidate = encode (Ack voter candidate 1 0) []
+ackLine voter candidate = lineOf 1 (Ack voter candidate)
 
 -- ---- the calls, with the tables lent
 
--- node 0 owns slot 0, and nobody another one
-abbrev pub slots : List ℕ
-slots = 0 ∷ replicate 16383 unowned
-
-abbrev pub reports : List ℕ
-reports = replicate reportCount 0
+-- node 0 owns slot 0, and nobody another one; nothing is reported
+abbrev pub tables : Tables
+tables = record { slots = 0 ∷ replicate 16383 unowned; reports = replicate reportCount 0 }
 
 abbrev pub gets : ℕ → List ℕ → Made
-gets node line = record { on = node; call = frame slots reports line }
+gets node line = record { on = node; call = frame line; lent = tables }
 
-abbrev pub opens : ℕ → Made
-opens node = record { on = node; call = opening slots 0 }
+abbrev pub opensElection : ℕ → Made
+opensElection node = record { on = node; call = opening 0; lent = tables }
 
 -- ---- a node wins
 
@@ -75,21 +73,21 @@ winning =
     ∷ gets 2 (failLine 1)
     ∷ gets 1 (requestLine 3)
     ∷ gets 1 (failLine 2)
-    ∷ opens 3
+    ∷ opensElection 3
     ∷ gets 3 (failLine 1)
     ∷ []
 
 pub record ANodeWins : Type 0 where
-  pub candidate : past winning 3 ≡ won 2 1 ∷ counted 1 1 ∷ opened ∷ other ∷ []
-  pub voter1 : past winning 1 ≡ granted 1 3 ∷ other ∷ []
-  pub voter2 : past winning 2 ≡ granted 1 3 ∷ other ∷ []
+  pub candidate : deeds winning 3 ≡ won 2 1 ∷ counted 1 1 ∷ opened ∷ other ∷ []
+  pub voter1 : deeds winning 1 ≡ granted 1 3 ∷ other ∷ []
+  pub voter2 : deeds winning 2 ≡ granted 1 3 ∷ other ∷ []
 
 -- ---- two nodes win the same epoch
 
 -- nodes 3 and 4 win epoch 1, and had done that before their wins
 pub record BothWin (ms : List Made) (before3 before4 : List Deed) : Type 0 where
-  pub first : Won 1 (past ms 3) before3
-  pub second : Won 1 (past ms 4) before4
+  pub first : Won 1 (deeds ms 3) before3
+  pub second : Won 1 (deeds ms 4) before4
 
 -- Sets that differ. Node 3 is told that nodes 0 and 2 are replicas, so that its set is node 1 alone; node 4 is told it of 0 and
 -- 1, and its set is node 2 alone. Each voter grants what it acks.
@@ -101,21 +99,21 @@ differing =
     ∷ gets 2 (failLine 1)
     ∷ gets 1 (requestLine 3)
     ∷ gets 1 (failLine 2)
-    ∷ opens 4
+    ∷ opensElection 4
     ∷ gets 4 (failLine 1)
     ∷ gets 4 (replicaLine 1)
     ∷ gets 4 (replicaLine 0)
-    ∷ opens 3
+    ∷ opensElection 3
     ∷ gets 3 (failLine 1)
     ∷ gets 3 (replicaLine 2)
     ∷ gets 3 (replicaLine 0)
     ∷ []
 
 abbrev pub differing3 : List Deed
-differing3 = opened ∷ other ∷ told 2 false ∷ told 0 false ∷ []
+differing3 = opened ∷ other ∷ announced 2 false ∷ announced 0 false ∷ []
 
 abbrev pub differing4 : List Deed
-differing4 = opened ∷ other ∷ told 1 false ∷ told 0 false ∷ []
+differing4 = opened ∷ other ∷ announced 1 false ∷ announced 0 false ∷ []
 
 pub record SetsThatDiffer : Type 0 where
   pub both : BothWin differing differing3 differing4
@@ -128,7 +126,7 @@ pub record SetsThatDiffer : Type 0 where
 -- Acks that nobody granted. Node 3 wins as above; then node 4 opens, with the same set, and gets acks of voters that granted
 -- the epoch to node 3.
 unfoldable pub madeUp : List Made
-madeUp = gets 4 (ackLine 2 4) ∷ gets 4 (ackLine 1 4) ∷ opens 4 ∷ gets 4 (failLine 1) ∷ winning
+madeUp = gets 4 (ackLine 2 4) ∷ gets 4 (ackLine 1 4) ∷ opensElection 4 ∷ gets 4 (failLine 1) ∷ winning
 
 abbrev pub beforeWin : List Deed
 beforeWin = counted 1 1 ∷ opened ∷ other ∷ []
@@ -138,8 +136,8 @@ pub record AcksMadeUp : Type 0 where
   pub sets : SameSet roster 3 beforeWin 4 beforeWin
   pub granted3 : AllGranted roster timeouts madeUp 3 1
   -- the second is broken: node 4 counted an ack of node 1, which did not grant it the epoch
-  pub counted4 : Counted 1 1 (past madeUp 4)
-  pub ungranted : Did (granted 1 4) (past madeUp 1) → ⊥
+  pub counted4 : Counted 1 1 (deeds madeUp 4)
+  pub ungranted : Did (granted 1 4) (deeds madeUp 1) → ⊥
 
 pub record Examples : Type 0 where
   pub wins : ANodeWins

@@ -17,11 +17,11 @@ enum-known-check c = search needs
 enum-told : tie.Need-enum-told
 enum-told c = search needs
 
-time-of-requires : tie.Need-time-of-requires
-time-of-requires c κs = search needs
+enum-told-2 : tie.Need-enum-told-2
+enum-told-2 c = search needs
 
-epoch-of-requires : tie.Need-epoch-of-requires
-epoch-of-requires c κs = search needs
+enum-known-decoded : tie.Need-enum-known-decoded
+enum-known-decoded c = search needs
 
 arrived-requires : tie.Need-arrived-requires
 arrived-requires c κs = search needs
@@ -33,15 +33,19 @@ returns : tie.Need-returns
 unfolding onFrame
 returns c = rw (by-check, ← c .before .before .before .before .decode .ensures, ← c .before .before .before .refusal .ensures, c .before .check .given .1)
 
+returns-2 : tie.Need-returns-2
+unfolding onFrame
+returns-2 c = rw (by-check, ← c .before .before .before .before .before .decode .ensures, ← c .before .before .before .before .refusal .ensures, c .before .before .enum-told .given .1, c .enum-told2 .given .1)
+
 same-length : tie.Need-same-length
 same-length c = search needs
 
 same-length-2 : tie.Need-same-length-2
 same-length-2 c = search needs
 
-returns-2 : tie.Need-returns-2
+returns-3 : tie.Need-returns-3
 unfolding onFrame
-returns-2 c = rw (by-check, ← c .before .before .before .before .before .before .before .before .before .before .before .before .before .decode .ensures, ← c .before .before .before .before .before .before .before .before .before .before .before .before .refusal .ensures, c .before .before .before .before .before .before .before .before .before .before .enum-told .given .1, ← c .before .before .before .before .before .before .before .before .before .time-of .ensures, ← c .before .before .before .before .before .before .before .before .epoch-of .ensures, ← c .before .before .before .before .before .before .before .arrived .ensures) (c .before .before .before .before .by-kind .ensures)
+returns-3 c = rw (by-check, ← c .before .before .before .before .before .before .before .before .before .before .before .before .before .before .before .decode .ensures, ← c .before .before .before .before .before .before .before .before .before .before .before .before .before .before .refusal .ensures, c .before .before .before .before .before .before .before .before .before .before .before .before .enum-told .given .1, c .before .before .before .before .before .before .before .before .before .before .decoded .given .1, ← c .before .before .before .before .before .before .before .arrived .ensures) (c .before .before .before .before .by-kind .ensures)
 
 pub frame-spec : {M : Type 1} → statement M
 frame-spec =
@@ -51,11 +55,12 @@ frame-spec =
     refusal-requires
     enum-known-check
     enum-told
-    time-of-requires
-    epoch-of-requires
+    enum-told-2
+    enum-known-decoded
     arrived-requires
     by-kind-requires
     returns
+    returns-2
     same-length
     same-length-2
-    returns-2)
+    returns-3)
