@@ -4,8 +4,9 @@
     python3 tests/replay/generate.py SEED COUNT >run.txt
 
 The reference beside this file plays each line as it is written, so that frames carry what their sender knows, times and
-epochs lie near what the receiver remembers, and acks mostly follow grants. Some frames are made up, some lines do not fit.
-The same seed and count give the same file. The count is about the number of lines.
+epochs lie near what the receiver remembers, and acks mostly follow grants. The network between the nodes has faults: frames
+are lost, come twice, come late (with the time at which they come, or with the old one), are malformed, or are forged in a
+real node's name. Some lines do not fit. The same seed and count give the same file. The count is about the number of lines.
 """
 import random
 import sys
@@ -36,6 +37,7 @@ class Tape:
         self.run = Run()
         self.lines = []
         self.granted = []  # voter, candidate, epoch
+        self.late = []  # frames on their way: after which line they come, to whom, digits and slots
 
     # ---- writing
 
@@ -51,7 +53,28 @@ class Tape:
         return self.run.line(len(self.lines), raw)
 
     def frame(self, to, digits, slots=None):
-        """A frame; a bitmap is put as ranges, or now and then all in digits."""
+        """A frame is sent: it comes, comes twice, comes later, or never."""
+        r = self.random
+        fate = r.random()
+        if fate < 0.03:
+            return
+        if fate < 0.09:
+            self.late.append((len(self.lines) + r.randrange(1, 40), to, digits, slots))
+        if fate >= 0.06:
+            self.deliver(to, digits, slots)
+
+    def deliver_late(self):
+        """What was on its way, mostly with the time at which it comes."""
+        due = [x for x in self.late if x[0] <= len(self.lines)]
+        self.late = [x for x in self.late if x[0] > len(self.lines)]
+        for _, to, digits, slots in due:
+            at = {"01": 40, "04": 40, "05": 24}.get(digits[:2], 8)
+            if self.random.random() < 0.7:
+                digits = digits[:at] + wide(self.time(self.nodes()[to])) + digits[at + 16 :]
+            self.deliver(to, digits, slots)
+
+    def deliver(self, to, digits, slots=None):
+        """A frame comes; a bitmap is put as ranges, or now and then all in digits."""
         r = self.random
         if slots is not None:
             ranges = stretches(slots)
@@ -209,6 +232,19 @@ def ack(t, to=None):
     if r.random() < 0.12:
         epoch, candidate = t.near(epoch), r.choice((candidate, candidate, t.other(to)))
     t.frame(to.me, "05" + byte(voter) + byte(candidate) + "00" + wide(epoch) + wide(t.time(to)))
+
+
+def forged(t):
+    """In a real node's name: a vote that nobody gave, for whoever runs, or slots that nobody gave up, in an epoch of its own."""
+    r = t.random
+    running = [n for n in t.nodes() if n.election]
+    if running and r.random() < 0.7:
+        to = r.choice(running)
+        voters = sorted(to.election["voters"]) or [0]
+        return t.frame(to.me, "05" + byte(r.choice(voters)) + byte(to.me) + "00" + wide(to.election["epoch"]) + wide(t.time(to)))
+    to = t.node()
+    epoch = max(to.config) + r.choice((0, 1, 1, 2))
+    return t.frame(to.me, "01" + byte(t.other(to)) + "0000" + wide(max(epoch, to.current)) + wide(epoch) + wide(t.time(to)), t.some_slots())
 
 
 # ---- the other calls
@@ -369,10 +405,11 @@ def begin(t):
 def generate(seed, count):
     t = Tape(seed)
     begin(t)
-    plain = [heartbeat] * 14 + [report] * 8 + [fail] * 3 + [probe] * 14 + [tick] * 14 + [request] * 8 + [ack] * 10
+    plain = [heartbeat] * 14 + [report] * 8 + [fail] * 3 + [probe] * 14 + [tick] * 14 + [request] * 8 + [ack] * 10 + [forged] * 3
     plain += [opening] * 6 + [mark] * 8 + [key] * 12 + [entries] * 4 + [bad] * 6 + [failover] * 3
     while len(t.lines) < count:
         t.random.choice(plain)(t)
+        t.deliver_late()
         if t.random.random() < 0.004:
             many_marks(t)
     if t.random.random() < 0.3:

@@ -3,8 +3,8 @@
 
     python3 tests/replay/reference.py FILE..
 
-Each file is a run, and has the line `run FILE` before it and an empty line between it and the next. Without a file, standard
-input is the one run, with no line before it.
+Each file is a run, and has the line `run FILE` before it and an empty line between it and the next. A file that cannot be read
+is named on standard error alone. Without a file, standard input is the one run, with no line before it.
 
 Not written from the Rattle code. The frames' rules come from tests/node/reference.py; what that node never meets (elections
 of its own, marks, redirections, other rosters) and the run's format stand here. Bad lines, calls and summary come out in the
@@ -322,8 +322,10 @@ class Run:
             return self.frame(node, values[1] + (bitmap(values[3:]) if len(values) > 2 else b""))
         if name == "open":
             answer = node.open(values[1])
-            voters = "".join(f" {k}" for k in sorted(node.election["voters"])) if answer == 0 else ""
-            return f"{answer} {NAMES[answer]}", [f"election opened for epoch {node.current}, voters{voters}"] if answer == 0 else []
+            if answer:
+                return f"{answer} {NAMES[answer]}", []
+            voters = " ".join(str(k) for k in sorted(node.election["voters"])) or "none"
+            return f"{answer} {NAMES[answer]}", [f"election opened for epoch {node.current}, voters {voters}"]
         if name == "unmark":
             answer = node.unmark(values[1])
         else:
@@ -391,9 +393,16 @@ def main(names):
     out = sys.stdout.buffer
     if not names:
         out.write("".join(line + "\n" for line in played(sys.stdin.buffer.read())).encode())
-    for i, name in enumerate(names):
-        out.write((b"\n" if i else b"") + b"run " + os.fsencode(name) + b"\n")
-        out.write("".join(line + "\n" for line in played(Path(name).read_bytes())).encode())
+    between = b""  # an empty line between two runs
+    for name in names:
+        try:
+            data = Path(name).read_bytes()
+        except OSError as error:  # nothing is said of it on standard output
+            print(f"{name}: {error.strerror}", file=sys.stderr)
+            continue
+        out.write(between + b"run " + os.fsencode(name) + b"\n")
+        out.write("".join(line + "\n" for line in played(data)).encode())
+        between = b"\n"
 
 
 if __name__ == "__main__":

@@ -1,2 +1,3 @@
-pub mod Calls
-pub mod Frames
+pub mod Words
+pub mod Numbers
+pub mod Bytes

@@ -1,621 +1,580 @@
-// A line of a run's file, and the call that it says: docs/REPLAY.md.
+// A line of a run's file, and the call that it says: docs/REPLAY.md. Numbers, ranges of slots, a claimed bitmap and the bytes
+// of a key are what the definitions say; that a line's words are looked at in their places is held to stored output.
 ghost use mathlib.Core.Path.{_≡_};
-ghost use mathlib.Core.List.{[], _∷_, _++_};
-ghost use Prim.Native.Nat.{ℕ, _+_, _-_, _*_, _≤_, _<_};
-ghost use lib.ListN.{length, drop, take, replicate};
+ghost use Rattle.tables.specs.Sizes.{slotCount};
+ghost use Prim.Native.Nat.{_+_, _*_, _≤_, _<_};
+ghost use lib.ListN.{length};
 ghost use Rattle.lines.specs.Texts.{Text, puts};
-ghost use Rattle.words.specs.Words.{wordAt, isWord, same, differs};
-ghost use Rattle.words.specs.Numbers.{value, wrong, firstPart, lastPart, wrongRange};
-ghost use Rattle.calls.specs.Calls.{instead, neither, ranges, calls, rosterOf, replicaOf, timeoutOf, whose, wrongWhose, slotsOf, reportOf, offRange, badRange, frameCall, openOf, migrateOf, importOf, unmarkOf, wrongHex, keyOf, hexkeyOf, callOf};
-ghost use Rattle.calls.specs.Frames.{given, claim, claims, bit, nibble, hexDigit, digitsBelow, frameLine, keyBytes};
-ghost use mathlib.Core.Bool.{false};
-ghost use Rattle.tables.specs.Checks.{checked};
-ghost use Rattle.calls.specs.declared.Form.the-variants.{Unknown};
-ghost use Rattle.calls.specs.declared.Call.the-variants.{Bad};
-use state::Move;
+ghost use Rattle.hex.specs.Hex.{byteAt};
+ghost use Rattle.calls.specs.Words.{upTo, said, same};
+ghost use Rattle.calls.specs.Numbers.{between, capped, longer, value, leastOf, mostOf, numberOf, firstSlot, lastSlot, isRange, kept};
+ghost use Rattle.calls.specs.Bytes.{chosen, given, bit, nibble, digitOf, digitsBelow, keyBytes};
 use tables::Found;
 
-// The forms of a line, by its first word.
-pub enum Form {
-    Unknown,
-    Roster,
-    Replica,
-    Timeout,
-    Slots,
-    Report,
-    Frame,
-    Open,
-    Migrate,
-    Import,
-    Unmark,
-    Key,
-    HexKey,
+// The forms of a line, a row of 56 bytes each. First what stands at each place, by a letter; the form's name stands at
+// place 0, and the last letter goes for all places from there on. Then the form as it is shown, up to a ~.
+//   z SIZE     N a node of the roster     M such a node, another than at place 1     a such a node, or `all`
+//   n a node's number     o a slot or an owner     t TIME     T a timeout     r a range     R a range, or nothing more
+//   w any word     h a key in hexadecimal     p `present` or `absent`     . nothing more
+//   0 to 5 the words `of`, `for`, `to`, `from`, `claims` or nothing more, `asking` or nothing more
+const FORMS: [u8; SIZE] = *b"\
+    -z......roster SIZE~                                    \
+    -N0M....replica NODE of MASTER~                         \
+    -NT.....timeout NODE T~                                 \
+    -r0o1a..slots RANGE of OWNER for NODE|all~              \
+    -NNNt...report NODE SUBJECT REPORTER TIME~              \
+    -Nw4RRRRframe NODE DIGITS [claims RANGE..]~             \
+    -Nt.....open NODE TIME~                                 \
+    -No2n...migrate NODE SLOT to PEER~                      \
+    -No3n...import NODE SLOT from PEER~                     \
+    -No.....unmark NODE SLOT~                               \
+    -Nwp5...key NODE KEY present|absent [asking]~           \
+    -Nhp5...hexkey NODE DIGITS present|absent [asking]~     ";
+
+const WIDTH: usize = 56;
+
+const SIZE: usize = 672;
+
+// The forms' rows. From FRAME on they are calls; the others write a roster or its tables.
+pub const ROSTER: u8 = 0;
+
+pub const REPLICA: u8 = 1;
+
+pub const TIMEOUT: u8 = 2;
+
+pub const SLOTS: u8 = 3;
+
+pub const REPORT: u8 = 4;
+
+pub const FRAME: u8 = 5;
+
+pub const OPEN: u8 = 6;
+
+pub const MIGRATE: u8 = 7;
+
+pub const IMPORT: u8 = 8;
+
+pub const UNMARK: u8 = 9;
+
+pub const KEY: u8 = 10;
+
+pub const HEXKEY: u8 = 11;
+
+// One more than the last form's row: the first word is no form's name.
+const COUNT: u8 = 12;
+
+// Nothing but blanks and a comment.
+pub const SILENT: u8 = 254;
+
+// A line of which not all was kept.
+pub const TOO_LONG: u8 = 255;
+
+// The value of `all`, which is no node's number.
+pub const ALL: u64 = 256;
+
+// The most words of a line.
+const WORDS: usize = 64;
+
+// Entries of a slot table, and the digits of a bitmap that claims slots of it.
+const ENTRIES: usize = tables::SLOTS as usize;
+
+const DIGITS: usize = ENTRIES / 4;
+
+// What a line says. A range, a frame's digits and a key are words of the line: see `word`.
+pub struct Call {
+    pub form: u8,
+    // Which word does not fit, counted from 1; 0 if all do.
+    pub wrong: u8,
+    // The number that stands at each place, from 0; 1 for `present` and for `asking`.
+    pub numbers: [u64; 8],
 }
 
-// One node's table, or every node's.
-pub enum Whose {
-    One(u8),
-    All,
+// Whether a word fits where it stands, and the number that it says.
+struct Fit {
+    right: bool,
+    value: u64,
 }
 
-// What a line says. A frame's digits and a key are words of the line: see `frame`, `key` and `word`.
-pub enum Call {
-    // Nothing but blanks and a comment.
-    Silent,
-    // The word at that place, from 0, does not fit.
-    Bad {
-        form: Form,
-        word: usize,
-    },
-    Roster(u8),
-    Replica {
-        node: u8,
-        master: u8,
-    },
-    Timeout {
-        node: u8,
-        timeout: u64,
-    },
-    Slots {
-        first: u16,
-        last: u16,
-        owner: u16,
-        whose: Whose,
-    },
-    Report {
-        node: u8,
-        subject: u8,
-        reporter: u8,
-        time: u64,
-    },
-    Frame(u8),
-    Open {
-        node: u8,
-        time: u64,
-    },
-    Mark {
-        node: u8,
-        slot: u16,
-        movement: Move,
-    },
-    Unmark {
-        node: u8,
-        slot: u16,
-    },
-    Key {
-        node: u8,
-        hex: bool,
-        present: bool,
-        asking: bool,
-    },
-}
+// ---- words
 
-// ---- a word of the line, by its place
-
-fn wrong(line: &[u8], i: usize, limit: u64) -> bool
-    ensures { λ r. ⌜ r ≡ wrong (wordAt (now (line .entry)) i) limit ⌝ }
+// Where a byte first stands, or the text's end.
+fn up_to(text: &[u8], byte: u8) -> usize
+    ensures { λ r. ⌜ (r ≡ upTo byte (now (text .entry))) × (r ≤ length (now (text .entry))) ⌝ }
 {
-    words::wrong(words::word(line, i), limit)
-}
-
-fn is_there(line: &[u8], i: usize) -> bool
-    ensures { λ r. ⌜ r ≡ isWord (wordAt (now (line .entry)) i) ⌝ }
-{
-    words::is_word(words::word(line, i))
-}
-
-fn same(line: &[u8], i: usize, wanted: &[u8]) -> bool
-    ensures { λ r. ⌜ r ≡ same (wordAt (now (line .entry)) i) (now (wanted .entry)) ⌝ }
-{
-    words::same(words::word(line, i), wanted)
-}
-
-fn differs(line: &[u8], i: usize, wanted: &[u8]) -> bool
-    ensures { λ r. ⌜ r ≡ differs (wordAt (now (line .entry)) i) (now (wanted .entry)) ⌝ }
-{
-    words::differs(words::word(line, i), wanted)
-}
-
-// A word that may be missing, and is another one than wanted.
-fn instead(line: &[u8], i: usize, wanted: &[u8]) -> bool
-    ensures { λ r. ⌜ r ≡ instead (wordAt (now (line .entry)) i) (now (wanted .entry)) ⌝ }
-{
-    if is_there(line, i) {
-        return differs(line, i, wanted);
-    }
-    false
-}
-
-fn value(line: &[u8], i: usize) -> u64
-    ensures { λ r. ⌜ r ≡ value (wordAt (now (line .entry)) i) ⌝ }
-{
-    words::value(words::word(line, i))
-}
-
-// Numbers that were seen to fit.
-fn small(line: &[u8], i: usize) -> u8
-    requires { ⌜ value (wordAt (now line) i) ≤ 255 ⌝ }
-    ensures { λ r. ⌜ r ≡ value (wordAt (now (line .entry)) i) ⌝ }
-{
-    value(line, i) as u8
-}
-
-fn middling(line: &[u8], i: usize) -> u16
-    requires { ⌜ value (wordAt (now line) i) ≤ 65535 ⌝ }
-    ensures { λ r. ⌜ r ≡ value (wordAt (now (line .entry)) i) ⌝ }
-{
-    value(line, i) as u16
-}
-
-// Where a range begins and ends.
-fn first(line: &[u8], i: usize) -> u16
-    requires { ⌜ wrongRange (wordAt (now line) i) ≡ false ⌝ }
-    ensures { λ r. ⌜ r ≡ value (firstPart (wordAt (now (line .entry)) i)) ⌝ }
-{
-    words::value(words::first_part(words::word(line, i))) as u16
-}
-
-fn last(line: &[u8], i: usize) -> u16
-    requires { ⌜ wrongRange (wordAt (now line) i) ≡ false ⌝ }
-    ensures { λ r. ⌜ r ≡ value (lastPart (wordAt (now (line .entry)) i)) ⌝ }
-{
-    words::value(words::last_part(words::word(line, i))) as u16
-}
-
-fn wrong_range(line: &[u8], i: usize) -> bool
-    ensures { λ r. ⌜ r ≡ wrongRange (wordAt (now (line .entry)) i) ⌝ }
-{
-    words::wrong_range(words::word(line, i))
-}
-
-// ---- forms
-
-fn bad(form: Form, word: usize) -> Call
-    ensures { λ r. ⌜ r ≡ Bad form word ⌝ }
-{
-    Call::Bad { form, word }
-}
-
-fn roster(line: &[u8]) -> Call
-    ensures { λ r. ⌜ r ≡ rosterOf (now (line .entry)) ⌝ }
-{
-    if wrong(line, 1, 16) {
-        return bad(Form::Roster, 1);
-    }
-    if value(line, 1) < 1 {
-        return bad(Form::Roster, 1);
-    }
-    if is_there(line, 2) {
-        return bad(Form::Roster, 2);
-    }
-    Call::Roster(small(line, 1))
-}
-
-fn replica(line: &[u8]) -> Call
-    ensures { λ r. ⌜ r ≡ replicaOf (now (line .entry)) ⌝ }
-{
-    if wrong(line, 1, 255) {
-        return bad(Form::Replica, 1);
-    }
-    if differs(line, 2, b"of") {
-        return bad(Form::Replica, 2);
-    }
-    if wrong(line, 3, 255) {
-        return bad(Form::Replica, 3);
-    }
-    if value(line, 1) == value(line, 3) {
-        return bad(Form::Replica, 3);
-    }
-    if is_there(line, 4) {
-        return bad(Form::Replica, 4);
-    }
-    Call::Replica {
-        node: small(line, 1),
-        master: small(line, 3),
+    match tables::first_byte(text, byte) {
+        Found::Nothing => text.len(),
+        Found::At(k) => k,
     }
 }
 
-fn timeout(line: &[u8]) -> Call
-    ensures { λ r. ⌜ r ≡ timeoutOf (now (line .entry)) ⌝ }
+// The line without its comment.
+fn said(line: &[u8]) -> &[u8]
+    ensures { λ r. ⌜ now r ≡ said (now (line .entry)) ⌝ }
 {
-    if wrong(line, 1, 255) {
-        return bad(Form::Timeout, 1);
-    }
-    if wrong(line, 2, 600000) {
-        return bad(Form::Timeout, 2);
-    }
-    if value(line, 2) < 100 {
-        return bad(Form::Timeout, 2);
-    }
-    if is_there(line, 3) {
-        return bad(Form::Timeout, 3);
-    }
-    Call::Timeout {
-        node: small(line, 1),
-        timeout: value(line, 2),
-    }
+    let end = up_to(line, b'#');
+    &line[..end]
 }
 
-fn wrong_whose(line: &[u8], i: usize) -> bool
-    ensures { λ r. ⌜ r ≡ wrongWhose (wordAt (now (line .entry)) i) ⌝ }
+// Where the next word starts, from a place on.
+fn word_start(text: &[u8], from: usize) -> usize
+    requires { ⌜ from ≤ length (now text) ⌝ }
+    ensures { λ r. ⌜ r ≤ length (now (text .entry)) ⌝ }
 {
-    if differs(line, i, b"all") {
-        return wrong(line, i, 255);
-    }
-    false
-}
-
-fn whose_of(line: &[u8], i: usize) -> Whose
-    requires { ⌜ wrongWhose (wordAt (now line) i) ≡ false ⌝ }
-    ensures { λ r. ⌜ r ≡ whose (wordAt (now (line .entry)) i) ⌝ }
-{
-    if same(line, i, b"all") {
-        return Whose::All;
-    }
-    Whose::One(small(line, i))
-}
-
-fn slots(line: &[u8]) -> Call
-    ensures { λ r. ⌜ r ≡ slotsOf (now (line .entry)) ⌝ }
-{
-    if wrong_range(line, 1) {
-        return bad(Form::Slots, 1);
-    }
-    if differs(line, 2, b"of") {
-        return bad(Form::Slots, 2);
-    }
-    if wrong(line, 3, 65535) {
-        return bad(Form::Slots, 3);
-    }
-    if differs(line, 4, b"for") {
-        return bad(Form::Slots, 4);
-    }
-    if wrong_whose(line, 5) {
-        return bad(Form::Slots, 5);
-    }
-    if is_there(line, 6) {
-        return bad(Form::Slots, 6);
-    }
-    Call::Slots {
-        first: first(line, 1),
-        last: last(line, 1),
-        owner: middling(line, 3),
-        whose: whose_of(line, 5),
-    }
-}
-
-fn report(line: &[u8]) -> Call
-    ensures { λ r. ⌜ r ≡ reportOf (now (line .entry)) ⌝ }
-{
-    if wrong(line, 1, 255) {
-        return bad(Form::Report, 1);
-    }
-    if wrong(line, 2, 255) {
-        return bad(Form::Report, 2);
-    }
-    if wrong(line, 3, 255) {
-        return bad(Form::Report, 3);
-    }
-    if wrong(line, 4, words::MOST) {
-        return bad(Form::Report, 4);
-    }
-    if is_there(line, 5) {
-        return bad(Form::Report, 5);
-    }
-    Call::Report {
-        node: small(line, 1),
-        subject: small(line, 2),
-        reporter: small(line, 3),
-        time: value(line, 4),
-    }
-}
-
-fn off_range(line: &[u8], i: usize) -> bool
-    ensures { λ r. ⌜ r ≡ offRange (wordAt (now (line .entry)) i) ⌝ }
-{
-    if is_there(line, i) {
-        return wrong_range(line, i);
-    }
-    false
-}
-
-// The first word from the fifth on that is there and is no range.
-fn bad_range(line: &[u8]) -> Found
-    ensures { λ r. ⌜ r ≡ badRange (now (line .entry)) 60 4 ⌝ }
-{
-    let mut i: usize = 4;
-    while i < 64 {
-        if off_range(line, i) {
-            return Found::At(i);
+    let mut i = from;
+    while i < text.len() {
+        if text[i] > b' ' {
+            return i;
         }
         i += 1;
     }
-    Found::Nothing
+    i
 }
 
-fn ranges(line: &[u8]) -> Call
-    requires { ⌜ value (wordAt (now line) 1) ≤ 255 ⌝ }
-    ensures { λ r. ⌜ r ≡ ranges (badRange (now (line .entry)) 60 4) (now (line .entry)) ⌝ }
+// Where the word that starts at a place ends.
+fn word_end(text: &[u8], from: usize) -> usize
+    requires { ⌜ from ≤ length (now text) ⌝ }
+    ensures { λ r. ⌜ (from ≤ r) × (r ≤ length (now (text .entry))) ⌝ }
 {
-    match bad_range(line) {
-        Found::At(i) => bad(Form::Frame, i),
-        Found::Nothing => {
-            if is_there(line, 64) {
-                return bad(Form::Frame, 64);
-            }
-            Call::Frame(small(line, 1))
+    let mut i = from;
+    while i < text.len() {
+        if text[i] <= b' ' {
+            return i;
         }
+        i += 1;
     }
+    i
 }
 
-fn frame_call(line: &[u8]) -> Call
-    ensures { λ r. ⌜ r ≡ frameCall (now (line .entry)) ⌝ }
-{
-    if wrong(line, 1, 255) {
-        return bad(Form::Frame, 1);
+// Word i of a text that has no comment, counted from 0; the empty word where there are fewer.
+fn word_of(text: &[u8], i: usize) -> &[u8] {
+    let mut at: usize = 0;
+    let mut left = i;
+    while left > 0 {
+        at = word_end(text, word_start(text, at));
+        left -= 1;
     }
-    if !is_there(line, 2) {
-        return bad(Form::Frame, 2);
-    }
-    if instead(line, 3, b"claims") {
-        return bad(Form::Frame, 3);
-    }
-    ranges(line)
+    let from = word_start(text, at);
+    let to = word_end(text, from);
+    &text[from..to]
 }
 
-fn open(line: &[u8]) -> Call
-    ensures { λ r. ⌜ r ≡ openOf (now (line .entry)) ⌝ }
-{
-    if wrong(line, 1, 255) {
-        return bad(Form::Open, 1);
-    }
-    if wrong(line, 2, words::MOST) {
-        return bad(Form::Open, 2);
-    }
-    if is_there(line, 3) {
-        return bad(Form::Open, 3);
-    }
-    Call::Open {
-        node: small(line, 1),
-        time: value(line, 2),
-    }
+// Word i of a line.
+pub fn word(line: &[u8], i: usize) -> &[u8] {
+    word_of(said(line), i)
 }
 
-fn migrate(line: &[u8]) -> Call
-    ensures { λ r. ⌜ r ≡ migrateOf (now (line .entry)) ⌝ }
+fn same(a: &[u8], b: &[u8]) -> bool
+    ensures { λ r. ⌜ r ≡ same (now (a .entry)) (now (b .entry)) ⌝ }
 {
-    if wrong(line, 1, 255) {
-        return bad(Form::Migrate, 1);
-    }
-    if wrong(line, 2, 65535) {
-        return bad(Form::Migrate, 2);
-    }
-    if differs(line, 3, b"to") {
-        return bad(Form::Migrate, 3);
-    }
-    if wrong(line, 4, 255) {
-        return bad(Form::Migrate, 4);
-    }
-    if is_there(line, 5) {
-        return bad(Form::Migrate, 5);
-    }
-    Call::Mark {
-        node: small(line, 1),
-        slot: middling(line, 2),
-        movement: Move::Migrating(small(line, 4)),
-    }
-}
-
-fn import(line: &[u8]) -> Call
-    ensures { λ r. ⌜ r ≡ importOf (now (line .entry)) ⌝ }
-{
-    if wrong(line, 1, 255) {
-        return bad(Form::Import, 1);
-    }
-    if wrong(line, 2, 65535) {
-        return bad(Form::Import, 2);
-    }
-    if differs(line, 3, b"from") {
-        return bad(Form::Import, 3);
-    }
-    if wrong(line, 4, 255) {
-        return bad(Form::Import, 4);
-    }
-    if is_there(line, 5) {
-        return bad(Form::Import, 5);
-    }
-    Call::Mark {
-        node: small(line, 1),
-        slot: middling(line, 2),
-        movement: Move::Importing(small(line, 4)),
-    }
-}
-
-fn unmark(line: &[u8]) -> Call
-    ensures { λ r. ⌜ r ≡ unmarkOf (now (line .entry)) ⌝ }
-{
-    if wrong(line, 1, 255) {
-        return bad(Form::Unmark, 1);
-    }
-    if wrong(line, 2, 65535) {
-        return bad(Form::Unmark, 2);
-    }
-    if is_there(line, 3) {
-        return bad(Form::Unmark, 3);
-    }
-    Call::Unmark {
-        node: small(line, 1),
-        slot: middling(line, 2),
-    }
-}
-
-fn wrong_hex(line: &[u8], i: usize) -> bool
-    ensures { λ r. ⌜ r ≡ wrongHex (wordAt (now (line .entry)) i) ⌝ }
-{
-    let digits = words::word(line, i);
-    if words::is_word(digits) {
-        if frames::all_digits(digits) {
-            return digits.len() % 2 != 0;
+    let mut i: usize = 0;
+    while i < a.len() {
+        if i >= b.len() {
+            return false;
         }
-        return true;
+        if a[i] != b[i] {
+            return false;
+        }
+        i += 1;
     }
-    true
+    i == b.len()
 }
 
-fn neither(line: &[u8], i: usize) -> bool
-    ensures { λ r. ⌜ r ≡ neither (wordAt (now (line .entry)) i) ⌝ }
+// ---- numbers and ranges
+
+// The greatest number that is read; one more stands for all that are greater, and for what is no number.
+const MOST: u64 = 1000000000000000000;
+
+fn between(v: u64, low: u64, high: u64) -> bool
+    ensures { λ r. ⌜ r ≡ between low high v ⌝ }
 {
-    if differs(line, i, b"present") {
-        return differs(line, i, b"absent");
+    if v < low {
+        return false;
+    }
+    v <= high
+}
+
+fn capped(v: u64) -> u64
+    ensures { λ r. ⌜ (r ≡ capped v) × (r ≤ 1000000000000000001) ⌝ }
+{
+    if v > MOST {
+        return MOST + 1;
+    }
+    v
+}
+
+// A number with a character behind it.
+fn longer(v: u64, c: u8) -> u64
+    requires { ⌜ v ≤ 1000000000000000001 ⌝ }
+    ensures { λ r. ⌜ (r ≡ longer v c) × (r ≤ 1000000000000000001) ⌝ }
+{
+    if c < b'0' {
+        return MOST + 1;
+    }
+    if c > b'9' {
+        return MOST + 1;
+    }
+    capped(v * 10 + (c - b'0') as u64)
+}
+
+// What a word says as a number.
+fn value(word: &[u8]) -> u64
+    ensures { λ r. ⌜ (r ≡ value (now (word .entry))) × (r ≤ 1000000000000000001) ⌝ }
+{
+    if word.len() == 0 {
+        return MOST + 1;
+    }
+    let mut v: u64 = 0;
+    let mut i: usize = 0;
+    while i < word.len() {
+        v = longer(v, word[i]);
+        i += 1;
+    }
+    v
+}
+
+// The least and the greatest number of a kind.
+fn least(kind: u8) -> u64
+    ensures { λ r. ⌜ r ≡ leastOf kind ⌝ }
+{
+    if kind == b'z' {
+        return 1;
+    }
+    if kind == b'T' {
+        return 100;
+    }
+    0
+}
+
+fn most(kind: u8) -> u64
+    ensures { λ r. ⌜ r ≡ mostOf kind ⌝ }
+{
+    if kind == b'z' {
+        return 16;
+    }
+    if kind == b'T' {
+        return 600000;
+    }
+    if kind == b'o' {
+        return 65535;
+    }
+    if kind == b't' {
+        return MOST;
+    }
+    255
+}
+
+fn number(word: &[u8], kind: u8) -> Fit
+    ensures { λ r. ⌜ r ≡ numberOf (now (word .entry)) kind ⌝ }
+{
+    let value = value(word);
+    Fit {
+        right: between(value, least(kind), most(kind)),
+        value,
+    }
+}
+
+// Where a range begins and ends.
+pub fn first_slot(range: &[u8]) -> u64
+    ensures { λ r. ⌜ r ≡ firstSlot (now (range .entry)) ⌝ }
+{
+    let end = up_to(range, b'-');
+    value(&range[..end])
+}
+
+pub fn last_slot(range: &[u8]) -> u64
+    ensures { λ r. ⌜ r ≡ lastSlot (now (range .entry)) ⌝ }
+{
+    let dash = up_to(range, b'-');
+    if dash < range.len() {
+        let from = dash + 1;
+        return value(&range[from..]);
+    }
+    value(range)
+}
+
+fn is_range(word: &[u8]) -> bool
+    ensures { λ r. ⌜ r ≡ isRange (now (word .entry)) ⌝ }
+{
+    between(last_slot(word), first_slot(word), 16383)
+}
+
+// A time as a report's entry keeps it: one more, so that 0 is none.
+pub fn kept(time: u64) -> u64
+    ensures { λ r. ⌜ r ≡ kept time ⌝ }
+{
+    if time < MOST {
+        return time + 1;
+    }
+    MOST + 1
+}
+
+// ---- a word by the kind of its place
+
+fn fitted(right: bool, value: u64) -> Fit {
+    Fit { right, value }
+}
+
+// A literal, by its kind.
+fn literal(word: &[u8], kind: u8) -> bool {
+    if kind < b'0' {
+        return false;
+    }
+    same(
+        word,
+        word_of(
+            b"of for to from claims asking present absent all",
+            (kind - b'0') as usize,
+        ),
+    )
+}
+
+// `all`, or a node.
+fn whose(word: &[u8]) -> Fit {
+    if literal(word, b'8') {
+        return fitted(true, ALL);
+    }
+    number(word, b'N')
+}
+
+// `present` or `absent`.
+fn presence(word: &[u8]) -> Fit {
+    if literal(word, b'6') {
+        return fitted(true, 1);
+    }
+    fitted(literal(word, b'7'), 0)
+}
+
+// Nobody follows itself.
+fn master(word: &[u8], node: u64) -> Fit {
+    let found = number(word, b'M');
+    if found.value == node {
+        return fitted(false, 0);
+    }
+    found
+}
+
+fn is_hex(word: &[u8]) -> bool {
+    if hex::all_digits(word) {
+        return word.len() % 2 == 0;
     }
     false
 }
 
-fn key_call(line: &[u8]) -> Call
-    ensures { λ r. ⌜ r ≡ keyOf (now (line .entry)) ⌝ }
-{
-    if wrong(line, 1, 255) {
-        return bad(Form::Key, 1);
-    }
-    if !is_there(line, 2) {
-        return bad(Form::Key, 2);
-    }
-    if neither(line, 3) {
-        return bad(Form::Key, 3);
-    }
-    if instead(line, 4, b"asking") {
-        return bad(Form::Key, 4);
-    }
-    if is_there(line, 5) {
-        return bad(Form::Key, 5);
-    }
-    Call::Key {
-        node: small(line, 1),
-        hex: false,
-        present: same(line, 3, b"present"),
-        asking: is_there(line, 4),
+// A word that is there.
+fn fitting(word: &[u8], kind: u8, node: u64) -> Fit {
+    match kind {
+        b'.'..=b'5' => fitted(literal(word, kind), 1),
+        b'M' => master(word, node),
+        b'R' | b'r' => fitted(is_range(word), 0),
+        b'a' => whose(word),
+        b'h' => fitted(is_hex(word), 0),
+        b'p' => presence(word),
+        b'w' => fitted(true, 0),
+        _ => number(word, kind),
     }
 }
 
-fn hexkey_call(line: &[u8]) -> Call
-    ensures { λ r. ⌜ r ≡ hexkeyOf (now (line .entry)) ⌝ }
-{
-    if wrong(line, 1, 255) {
-        return bad(Form::HexKey, 1);
-    }
-    if wrong_hex(line, 2) {
-        return bad(Form::HexKey, 2);
-    }
-    if neither(line, 3) {
-        return bad(Form::HexKey, 3);
-    }
-    if instead(line, 4, b"asking") {
-        return bad(Form::HexKey, 4);
-    }
-    if is_there(line, 5) {
-        return bad(Form::HexKey, 5);
-    }
-    Call::Key {
-        node: small(line, 1),
-        hex: true,
-        present: same(line, 3, b"present"),
-        asking: is_there(line, 4),
+// The line may end before a place of that kind.
+fn may_end(kind: u8) -> bool {
+    match kind {
+        b'.' | b'4' | b'5' | b'R' => true,
+        _ => false,
     }
 }
 
-// The calls; the forms of the roster and the tables come before.
-fn read_call(line: &[u8]) -> Call
-    ensures { λ r. ⌜ r ≡ checked (λ call. call) (calls (now (line .entry))) (Bad Unknown 0) ⌝ }
-{
-    if same(line, 0, b"frame") {
-        return frame_call(line);
+// ---- a line
+
+// What stands at a place of a form.
+fn kind_at(forms: &[u8; SIZE], form: u8, place: usize) -> u8 {
+    if place >= WORDS {
+        return b'.';
     }
-    if same(line, 0, b"open") {
-        return open(line);
+    if form >= COUNT {
+        return b'.';
     }
-    if same(line, 0, b"migrate") {
-        return migrate(line);
+    let row = form as usize * WIDTH;
+    if place > 7 {
+        return forms[row + 7];
     }
-    if same(line, 0, b"import") {
-        return import(line);
-    }
-    if same(line, 0, b"unmark") {
-        return unmark(line);
-    }
-    if same(line, 0, b"key") {
-        return key_call(line);
-    }
-    if same(line, 0, b"hexkey") {
-        return hexkey_call(line);
-    }
-    bad(Form::Unknown, 0)
+    forms[row + place]
 }
 
-// What a line says.
-pub fn read(line: &[u8]) -> Call
-    ensures { λ r. ⌜ r ≡ callOf (now (line .entry)) ⌝ }
+// Where a form is shown.
+fn shown(form: u8) -> usize
+    ensures { λ r. ⌜ r ≡ form * 56 + 8 ⌝ }
 {
-    if !is_there(line, 0) {
-        return Call::Silent;
+    form as usize * WIDTH + 8
+}
+
+// The form that begins with a word.
+fn form_of(forms: &[u8], word: &[u8]) -> u8 {
+    let mut form: u8 = ROSTER;
+    while form < COUNT {
+        let from = shown(form);
+        if from > forms.len() {
+            return COUNT;
+        }
+        let to = word_end(forms, from);
+        if same(word, &forms[from..to]) {
+            return form;
+        }
+        form += 1;
     }
-    if same(line, 0, b"roster") {
-        return roster(line);
+    COUNT
+}
+
+fn bad(form: u8, wrong: u8) -> Call {
+    Call {
+        form,
+        wrong,
+        numbers: [0; 8],
     }
-    if same(line, 0, b"replica") {
-        return replica(line);
+}
+
+// A line that says nothing, and one that was too long to be kept.
+pub fn silent() -> Call {
+    bad(SILENT, 0)
+}
+
+pub fn too_long() -> Call {
+    bad(TOO_LONG, 0)
+}
+
+// The words of a form, from where its name ends. The first that does not fit is named.
+fn read_words(forms: &[u8; SIZE], form: u8, text: &[u8], from: usize) -> Call
+    requires { ⌜ from ≤ length (now text) ⌝ }
+{
+    let mut numbers = [0u64; 8];
+    let mut end = from;
+    let mut place: usize = 1;
+    while place <= WORDS {
+        let start = word_start(text, end);
+        end = word_end(text, start);
+        let kind = kind_at(forms, form, place);
+        if start == end {
+            if may_end(kind) {
+                return Call {
+                    form,
+                    wrong: 0,
+                    numbers,
+                };
+            }
+            return bad(form, place as u8 + 1);
+        }
+        let found = fitting(&text[start..end], kind, numbers[1]);
+        if !found.right {
+            return bad(form, place as u8 + 1);
+        }
+        if place > 7 {
+            place += 1;
+            continue;
+        }
+        numbers[place] = found.value;
+        place += 1;
     }
-    if same(line, 0, b"timeout") {
-        return timeout(line);
+    bad(form, 0)
+}
+
+// What a line says. The forms are lent to a function of their own, as below: they would stand in every step of this one.
+pub fn read(line: &[u8]) -> Call {
+    read_by(&FORMS, line)
+}
+
+fn read_by(forms: &[u8; SIZE], line: &[u8]) -> Call {
+    let text = said(line);
+    let from = word_start(text, 0);
+    let to = word_end(text, from);
+    if from == to {
+        return silent();
     }
-    if same(line, 0, b"slots") {
-        return slots(line);
+    let form = form_of(forms, &text[from..to]);
+    if form == COUNT {
+        return bad(form, 1);
     }
-    if same(line, 0, b"report") {
-        return report(line);
+    read_words(forms, form, text, to)
+}
+
+// The place of the first word that must name a node of the roster and does not; 0 if there is none.
+pub fn stranger(call: Call, size: u64) -> usize {
+    stranger_by(&FORMS, call, size)
+}
+
+fn stranger_by(forms: &[u8; SIZE], call: Call, size: u64) -> usize {
+    let mut place: usize = 1;
+    while place < 8 {
+        let number = call.numbers[place];
+        if is_strange(kind_at(forms, call.form, place), number, size) {
+            return place;
+        }
+        place += 1;
     }
-    read_call(line)
+    0
+}
+
+fn is_strange(kind: u8, number: u64, size: u64) -> bool {
+    match kind {
+        b'N' | b'M' => number >= size,
+        b'a' => {
+            if number == ALL {
+                return false;
+            }
+            number >= size
+        }
+        _ => false,
+    }
+}
+
+// The form as it is shown.
+pub fn put_form(out: &mut [u8], at: usize, form: u8) -> usize {
+    put_by(&FORMS, out, at, form)
+}
+
+fn put_by(forms: &[u8; SIZE], out: &mut [u8], at: usize, form: u8) -> usize {
+    let mut end = at;
+    let mut i = shown(form);
+    while i < SIZE {
+        if forms[i] == b'~' {
+            return end;
+        }
+        end = lines::put(out, end, forms[i]);
+        i += 1;
+    }
+    end
 }
 
 // ---- what a line hands on
 
+// An entry of a table, or a value where its place is one of a range.
+fn chosen(old: u16, s: usize, first: u64, last: u64, x: u16) -> u16
+    ensures { λ r. ⌜ r ≡ chosen first last x s old ⌝ }
+{
+    if between(s as u64, first, last) {
+        return x;
+    }
+    old
+}
+
 // A value for the entries of a table from one place to another.
-pub fn give(table: &mut [u16], first: usize, last: usize, x: u16)
+pub fn give(table: &mut [u16], first: u64, last: u64, x: u16)
     ensures { λ _. ⌜ now (table .exit) ≡ given first last x (now (table .entry)) ⌝ }
 {
     let mut s: usize = 0;
     while s < table.len() {
-        if s < first {
-            s += 1;
-            continue;
-        }
-        if s > last {
-            s += 1;
-            continue;
-        }
-        table[s] = x;
+        table[s] = chosen(table[s], s, first, last, x);
         s += 1;
     }
 }
 
-fn claim(word: &[u8], table: &mut [u16])
-    ensures { λ _. ⌜ now (table .exit) ≡ claim (now (word .entry)) (now (table .entry)) ⌝ }
-{
-    if words::is_word(word) {
-        let first = words::value(words::first_part(word));
-        let last = words::value(words::last_part(word));
-        give(table, first as usize, last as usize, 1);
-    }
-}
-
-// The slots that a line's ranges claim.
-fn claims(line: &[u8], table: &mut [u16])
-    requires { ⌜ now table ≡ replicate 16384 0 ⌝ }
-    ensures { λ _. ⌜ now (table .exit) ≡ claims (now (line .entry)) ⌝ }
-{
-    let mut k: usize = 0;
-    while k < 60 {
-        claim(words::word(line, k + 4), table);
-        k += 1;
+// The slots that a line's ranges claim: words 4 and on.
+fn claims(text: &[u8], table: &mut [u16]) {
+    let mut place: usize = 4;
+    while place < WORDS {
+        let range = word_of(text, place);
+        if range.len() == 0 {
+            return;
+        }
+        give(table, first_slot(range), last_slot(range), 1);
+        place += 1;
     }
 }
 
@@ -629,60 +588,71 @@ fn bit(table: &[u16], s: usize) -> u8
 }
 
 fn nibble(table: &[u16], s: usize) -> u8
-    requires { ⌜ s < 16384 ⌝ }
+    requires { ⌜ s < slotCount ⌝ }
     ensures { λ r. ⌜ (r ≡ nibble (now (table .entry)) s) × (r < 16) ⌝ }
 {
     bit(table, s) + bit(table, s + 1) * 2 + bit(table, s + 2) * 4 + bit(table, s + 3) * 8
 }
 
-fn hex_digit(v: u8) -> u8
-    requires { ⌜ v < 16 ⌝ }
-    ensures { λ r. ⌜ r ≡ hexDigit v ⌝ }
+// Digit j of the bitmap that has a bit for each entry of a table.
+fn digit(table: &[u16], j: usize) -> u8
+    requires { ⌜ j < 4096 ⌝ }
+    ensures { λ r. ⌜ r ≡ digitOf (now (table .entry)) j ⌝ }
 {
-    if v < 10 {
-        return v + 48;
-    }
-    v + 87
+    let v = nibble(table, 8 * (j / 2) + 4 * (1 - j % 2));
+    v + 48 + v / 10 * 39
 }
 
 fn put_digits(table: &[u16], out: &mut [u8], at: usize) -> usize
-    ensures { λ r. ⌜ record { bytes = now (out .exit); end = r } ≡ puts (record { bytes = now (out .entry); end = at }) (digitsBelow (now (table .entry)) 2048) ⌝ }
+    ensures { λ r. ⌜ record { bytes = now (out .exit); end = r } ≡ puts (record { bytes = now (out .entry); end = at }) (digitsBelow (now (table .entry)) 4096) ⌝ }
 {
     let mut end = at;
-    let mut b: usize = 0;
-    while b < 2048 {
-        let high = lines::put(out, end, hex_digit(nibble(table, 8 * b + 4)));
-        end = lines::put(out, high, hex_digit(nibble(table, 8 * b)));
-        b += 1;
+    let mut j: usize = 0;
+    while j < DIGITS {
+        end = lines::put(out, end, digit(table, j));
+        j += 1;
     }
     end
 }
 
 // A frame's line, from the front of a buffer on: the digits, and behind them the bitmap where slots are claimed.
-pub fn frame(line: &[u8], out: &mut [u8]) -> usize
-    ensures { λ r. ⌜ record { bytes = now (out .exit); end = r } ≡ puts (record { bytes = now (out .entry); end = 0 }) (frameLine (now (line .entry))) ⌝ }
-{
-    let end = lines::put_text(out, 0, words::word(line, 2));
-    if is_there(line, 3) {
-        let mut table = [0u16; 16384];
-        claims(line, &mut table);
+pub fn frame(line: &[u8], out: &mut [u8]) -> usize {
+    let text = said(line);
+    let end = lines::put_text(out, 0, word_of(text, 2));
+    if word_of(text, 3).len() > 0 {
+        let mut table = [0u16; ENTRIES];
+        claims(text, &mut table);
         return put_digits(&table, out, end);
     }
     end
 }
 
-// A key that is given in hexadecimal, from the front of a buffer on.
-pub fn key(line: &[u8], out: &mut [u8]) -> usize
-    ensures { λ r. ⌜ record { bytes = now (out .exit); end = r } ≡ puts (record { bytes = now (out .entry); end = 0 }) (keyBytes (now (line .entry))) ⌝ }
+// Byte i of a text in hexadecimal.
+fn byte_at(digits: &[u8], i: usize) -> u8
+    requires { ⌜ i < 9223372036854775808 ⌝ }
+    ensures { λ r. ⌜ r ≡ byteAt (now (digits .entry)) i ⌝ }
 {
-    let digits = words::word(line, 2);
+    let high = hex::digit_at(digits, 2 * i);
+    let low = hex::digit_at(digits, 2 * i + 1);
+    high * 16 + low
+}
+
+// The node that a frame names, its sender or its candidate: the second byte.
+pub fn named(frame: &[u8]) -> u8
+    ensures { λ r. ⌜ r ≡ byteAt (now (frame .entry)) 1 ⌝ }
+{
+    byte_at(frame, 1)
+}
+
+// The bytes of a key that is given in hexadecimal, from the front of a buffer on.
+pub fn key(digits: &[u8], out: &mut [u8]) -> usize
+    ensures { λ r. ⌜ (record { bytes = now (out .exit); end = r } ≡ puts (record { bytes = now (out .entry); end = 0 }) (keyBytes (now (digits .entry)))) ⌝ }
+{
     let count = digits.len() / 2;
     let mut end: usize = 0;
     let mut i: usize = 0;
     while i < count {
-        let high = frames::digit_at(digits, 2 * i);
-        let low = frames::digit_at(digits, 2 * i + 1);
-        end = lines::put(out, end, high * 16 + low);
+        end = lines::put(out, end, byte_at(digits, i));
         i += 1;
     }
     end

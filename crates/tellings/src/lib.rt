@@ -1,59 +1,327 @@
-// The lines that `replay` prints: docs/REPLAY.md, "What is printed".
-ghost use mathlib.Core.Path.{_≡_};
-ghost use mathlib.Core.List.{[], _∷_};
-ghost use Prim.Native.Nat.{_≤_};
-ghost use Rattle.tables.specs.Sets.{has};
-ghost use Rattle.lines.specs.Texts.{Text, puts};
-ghost use Rattle.tellings.specs.Notices.{nodes, head, epochs, kind, turned, change, changes, voter, voters, isOpen, opened, granted, won, many, stale, claims, heard, news, notices};
-ghost use Rattle.tellings.specs.Summaries.{role, flag, allClear, listed, flags, self, summary, win};
+// The lines that `replay` prints: docs/REPLAY.md, "What is printed". Every text stands in a table, by its number.
 use answers::Answer;
 use answers::Tally;
-use frames::Frame;
+use nodesets::NodeSet;
+use routing::Redirect;
 use state::Election;
 use state::Flag;
-use state::Node;
 use state::Role;
 use tables::Found;
 
-// How many nodes the roster has, as far as there are records of them.
-fn nodes(node: Node) -> usize
-    ensures { λ r. ⌜ (r ≡ nodes node) × (r ≤ 64) ⌝ }
-{
-    let size = node.size as usize;
-    if size < state::NODES {
-        return size;
+// A text by its number, and the numbers that stand in it.
+pub struct Note {
+    pub row: u8,
+    pub first: u64,
+    pub second: u64,
+    pub third: u64,
+}
+
+// Below this number a text is an answer's.
+const NOTES: u8 = 37;
+
+// The other texts: a call's line,
+const HEAD: u8 = 37;
+
+const EPOCHS: u8 = 38;
+
+const HEARD: u8 = 39;
+
+const HEARD_STALE: u8 = 40;
+
+const DOWN: u8 = 41;
+
+const SERVE: u8 = 42;
+
+const ASK: u8 = 43;
+
+const MOVED: u8 = 44;
+
+// what people look for, below it, a flag's text by the flag,
+const FLAG: u8 = 45;
+
+const OPENED: u8 = 48;
+
+const GRANTED: u8 = 49;
+
+const WON: u8 = 50;
+
+const BOUND: u8 = 51;
+
+const REBOUND: u8 = 52;
+
+const STALE: u8 = 53;
+
+// a line that does not fit or cannot be done,
+pub const BAD: u8 = 54;
+
+pub const NO_FORM: u8 = 55;
+
+pub const UNFIT: u8 = 56;
+
+pub const NO_ROSTER: u8 = 57;
+
+pub const STANDS: u8 = 58;
+
+pub const BEGUN: u8 = 59;
+
+pub const NO_NODE: u8 = 60;
+
+pub const TOO_LONG: u8 = 61;
+
+// the summary, a flagged node's text by the flag,
+pub const SUMMARY: u8 = 62;
+
+const MASTER: u8 = 63;
+
+const REPLICA: u8 = 64;
+
+const OWN: u8 = 65;
+
+const FLAGGED: u8 = 66;
+
+const WINNER: u8 = 69;
+
+const AGAIN: u8 = 70;
+
+const NO_WINS: u8 = 71;
+
+// and what stands in lists.
+const MEMBER: u8 = 72;
+
+const NONE: u8 = 73;
+
+pub const QUOTE: u8 = 74;
+
+pub const END: u8 = 75;
+
+// ---- texts
+
+// Where a text of a table starts. Each goes up to a ~.
+fn start(texts: &[u8], row: u8) -> usize {
+    let mut left = row;
+    let mut i: usize = 0;
+    while i < texts.len() {
+        if left == 0 {
+            return i;
+        }
+        if texts[i] == b'~' {
+            left -= 1;
+        }
+        i += 1;
     }
-    state::NODES
+    i
 }
 
-// ---- around an answer
-
-// The line's number and the node.
-pub fn put_head(out: &mut [u8], at: usize, line: u64, k: u64) -> usize
-    ensures { λ r. ⌜ record { bytes = now (out .exit); end = r } ≡ puts (record { bytes = now (out .entry); end = at }) (head line k) ⌝ }
-{
-    let a = lines::put_number(out, at, line);
-    let b = lines::put_text(out, a, b" node ");
-    let c = lines::put_number(out, b, k);
-    lines::put_text(out, c, b": ")
+// A text, with the next number for each %.
+fn put_text(out: &mut [u8], at: usize, texts: &[u8], note: Note) -> usize {
+    let mut value = note.first;
+    let mut next = note.second;
+    let mut end = at;
+    let mut i = start(texts, note.row);
+    while i < texts.len() {
+        if texts[i] == b'~' {
+            return end;
+        }
+        if texts[i] == b'%' {
+            end = lines::put_number(out, end, value);
+            value = next;
+            next = note.third;
+            i += 1;
+            continue;
+        }
+        end = lines::put(out, end, texts[i]);
+        i += 1;
+    }
+    end
 }
 
-// The node's epochs, and the line's end.
-pub fn put_epochs(out: &mut [u8], at: usize, node: Node) -> usize
-    ensures { λ r. ⌜ record { bytes = now (out .exit); end = r } ≡ puts (record { bytes = now (out .entry); end = at }) (epochs node) ⌝ }
-{
-    let a = lines::put_text(out, at, b"; currentEpoch ");
-    let b = lines::put_number(out, a, node.current);
-    let c = lines::put_text(out, b, b", lastVoteEpoch ");
-    let d = lines::put_number(out, c, node.voted);
-    lines::put_text(out, d, b"\n")
+// All texts: the answers' first, then the others. Each goes up to a ~.
+const TEXTS: [u8; 1467] = *b"done~\
+    a table has the wrong length~\
+    not a frame~\
+    no such node~\
+    time before the clock~\
+    out of bounds~\
+    own number~\
+    the state is not sound~\
+    follows itself~\
+    epoch at the top~\
+    granted~\
+    refused, not a master~\
+    refused, epoch too low~\
+    refused, voted in that epoch already~\
+    refused, no replica of a listed master~\
+    refused, its master is not FAIL~\
+    refused, voted for such a replica lately~\
+    refused, a slot's owner is newer, slot %~\
+    ~\
+    ~\
+    sixteen slots are marked~\
+    no such slot~\
+    not marked~\
+    wrong side~\
+    not a replica~\
+    its master is not FAIL~\
+    its master owns no slot~\
+    ~\
+    an election is still young~\
+    ~\
+    won~\
+    no election is open~\
+    for another candidate~\
+    of another epoch~\
+    voter not in the set~\
+    too late~\
+    heard already~\
+    % node %: ~\
+    ; currentEpoch %, lastVoteEpoch %\n~\
+    0 heard, bound %, rebound %~\
+    0 heard, bound %, rebound %, stale at slot %~\
+    down~\
+    serve~\
+    ASK % %~\
+    MOVED % %~\
+    \x20 node % is no longer flagged\n~\
+    \x20 node % is now PFAIL\n~\
+    \x20 node % is now FAIL\n~\
+    \x20 election opened for epoch %, voters~\
+    \x20 vote of epoch % granted to node %\n~\
+    \x20 epoch % won, slots taken over: %\n~\
+    \x20 unowned slots that go to node %: %\n~\
+    \x20 slots that pass to node %: %\n~\
+    \x20 node % is stale at slot %\n~\
+    % bad line, nothing done: ~\
+    no call begins like that~\
+    word % does not fit in '~\
+    there is no roster yet~\
+    the roster stands already~\
+    the first call was made already~\
+    there is no node %~\
+    it is too long~\
+    summary\n~\
+    node %: master~\
+    node %: replica of %~\
+    , configEpoch %, slots %, flags~\
+    ~\
+    \x20% PFAIL~\
+    \x20% FAIL~\
+    epoch % won by node %\n~\
+    epoch % won by node % AGAIN\n~\
+    no epoch was won\n~\
+    \x20%~\
+    \x20none~\
+    '~\
+    \n~";
+
+// An answer begins with its number.
+fn put_kind(out: &mut [u8], at: usize, row: u8) -> usize {
+    if row >= NOTES {
+        return at;
+    }
+    let end = lines::put_number(out, at, row as u64);
+    lines::put(out, end, b' ')
 }
 
-// ---- flags that changed
+// A text and its numbers, behind the text's first `at` bytes.
+pub fn put(out: &mut [u8], at: usize, note: Note) -> usize {
+    let end = put_kind(out, at, note.row);
+    put_text(out, end, &TEXTS, note)
+}
 
-fn kind(flag: Flag) -> u8
-    ensures { λ r. ⌜ r ≡ kind flag ⌝ }
-{
+pub fn text(row: u8, first: u64, second: u64) -> Note {
+    Note {
+        row,
+        first,
+        second,
+        third: 0,
+    }
+}
+
+// ---- a call's line
+
+fn of_tally(tally: Tally) -> Note {
+    let stale = tally.stale;
+    let first = tally.bound as u64;
+    let second = tally.rebound as u64;
+    match stale {
+        Found::Nothing => text(HEARD, first, second),
+        Found::At(slot) => Note {
+            row: HEARD_STALE,
+            first,
+            second,
+            third: slot as u64,
+        },
+    }
+}
+
+// What is said of an answer: its number's text, with the values that it has.
+pub fn of_answer(answer: Answer) -> Note {
+    let row = answers::number(answer);
+    match answer {
+        Answer::Heard(tally) => of_tally(tally),
+        Answer::Outdated(slot) => text(row, slot as u64, 0),
+        _ => text(row, 0, 0),
+    }
+}
+
+// Where a key goes, or a refusal.
+pub fn of_redirect(redirect: Redirect) -> Note {
+    match redirect {
+        Redirect::WrongLength => of_answer(Answer::WrongLength),
+        Redirect::Unsound => of_answer(Answer::Unsound),
+        Redirect::Down => text(DOWN, 0, 0),
+        Redirect::Serve => text(SERVE, 0, 0),
+        Redirect::Ask { slot, peer } => text(ASK, slot as u64, peer as u64),
+        Redirect::Moved { slot, owner } => text(MOVED, slot as u64, owner as u64),
+    }
+}
+
+// What is told of a node after a line: the line's number and the node's, what is said, END if nothing is, the node's epochs,
+// what came with a frame's answer, the election if one was opened, and the flags' numbers before and after.
+pub struct Told {
+    pub line: u64,
+    pub node: u64,
+    pub said: Note,
+    pub current: u64,
+    pub voted: u64,
+    pub config: u64,
+    pub named: u64,
+    pub passed: u64,
+    pub answer: Answer,
+    pub election: Election,
+    pub before: [u8; tables::NODES],
+    pub after: [u8; tables::NODES],
+}
+
+pub fn put_told(out: &mut [u8], at: usize, told: Told) -> usize {
+    let said = told.said;
+    let answer = told.answer;
+    let election = told.election;
+    let before = told.before;
+    let after = told.after;
+    if said.row == END {
+        return at;
+    }
+    let a = put(out, at, text(HEAD, told.line, told.node));
+    let b = put(out, a, said);
+    let c = put(out, b, text(EPOCHS, told.current, told.voted));
+    let d = put_changes(out, c, &before, &after);
+    let e = put_news(
+        out,
+        d,
+        answer,
+        told.named,
+        told.voted,
+        told.config,
+        told.passed,
+    );
+    put_opened(out, e, election)
+}
+
+// ---- below it
+
+// A flag's number: its place among the texts.
+pub fn of_flag(flag: Flag) -> u8 {
     match flag {
         Flag::Clear => 0,
         Flag::Pfail => 1,
@@ -61,346 +329,167 @@ fn kind(flag: Flag) -> u8
     }
 }
 
-fn put_turned(out: &mut [u8], at: usize, flag: Flag) -> usize
-    ensures { λ r. ⌜ record { bytes = now (out .exit); end = r } ≡ puts (record { bytes = now (out .entry); end = at }) (turned flag) ⌝ }
-{
-    match flag {
-        Flag::Clear => lines::put_text(out, at, b" is no longer flagged\n"),
-        Flag::Pfail => lines::put_text(out, at, b" is now PFAIL\n"),
-        Flag::Fail(_) => lines::put_text(out, at, b" is now FAIL\n"),
-    }
-}
-
-fn put_change(out: &mut [u8], at: usize, k: u64, old: Flag, new: Flag) -> usize
-    ensures { λ r. ⌜ record { bytes = now (out .exit); end = r } ≡ puts (record { bytes = now (out .entry); end = at }) (change k old new) ⌝ }
-{
-    if kind(old) == kind(new) {
-        return at;
-    }
-    let a = lines::put_text(out, at, b"  node ");
-    let b = lines::put_number(out, a, k);
-    put_turned(out, b, new)
-}
-
-fn put_changes(out: &mut [u8], at: usize, before: Node, after: Node) -> usize
-    ensures { λ r. ⌜ record { bytes = now (out .exit); end = r } ≡ puts (record { bytes = now (out .entry); end = at }) (changes before after) ⌝ }
-{
-    let size = nodes(after);
+// The nodes whose flag is another one, from the flags' numbers before and after.
+fn put_changes(
+    out: &mut [u8],
+    at: usize,
+    before: &[u8; tables::NODES],
+    after: &[u8; tables::NODES],
+) -> usize {
     let mut end = at;
     let mut k: usize = 0;
-    while k < size {
-        let past = before.records[k];
-        let present = after.records[k];
-        let old = past.flag;
-        let new = present.flag;
-        end = put_change(out, end, k as u64, old, new);
+    while k < tables::NODES {
+        if after[k] == before[k] {
+            k += 1;
+            continue;
+        }
+        end = put(out, end, text(FLAG + after[k] % 3, k as u64, 0));
         k += 1;
     }
     end
 }
-
-// ---- elections and votes
-
-fn has(set: u64, k: usize) -> bool
-    ensures { λ r. ⌜ r ≡ has (set ∷ []) k ⌝ }
-{
-    if k >= 64 {
-        return false;
-    }
-    (set >> k) % 2 == 1
-}
-
-fn put_voter(out: &mut [u8], at: usize, set: u64, k: usize) -> usize
-    ensures { λ r. ⌜ record { bytes = now (out .exit); end = r } ≡ puts (record { bytes = now (out .entry); end = at }) (voter set k) ⌝ }
-{
-    if has(set, k) {
-        let a = lines::put_text(out, at, b" ");
-        return lines::put_number(out, a, k as u64);
-    }
-    at
-}
-
-fn put_voters(out: &mut [u8], at: usize, set: u64) -> usize
-    ensures { λ r. ⌜ record { bytes = now (out .exit); end = r } ≡ puts (record { bytes = now (out .entry); end = at }) (voters set) ⌝ }
-{
-    let mut end = at;
-    let mut k: usize = 0;
-    while k < 64 {
-        end = put_voter(out, end, set, k);
-        k += 1;
-    }
-    end
-}
-
-fn is_open(election: Election, e: u64) -> bool
-    ensures { λ r. ⌜ r ≡ isOpen election e ⌝ }
-{
-    match election {
-        Election::Closed => false,
-        Election::Open { epoch, .. } => epoch == e,
-    }
-}
-
-fn put_opened(out: &mut [u8], at: usize, old: Election, new: Election) -> usize
-    ensures { λ r. ⌜ record { bytes = now (out .exit); end = r } ≡ puts (record { bytes = now (out .entry); end = at }) (opened old new) ⌝ }
-{
-    match new {
-        Election::Closed => at,
-        Election::Open { epoch, voters, .. } => {
-            if is_open(old, epoch) {
-                return at;
-            }
-            let a = lines::put_text(out, at, b"  election opened for epoch ");
-            let b = lines::put_number(out, a, epoch);
-            let c = lines::put_text(out, b, b", voters");
-            let d = put_voters(out, c, voters);
-            lines::put_text(out, d, b"\n")
-        }
-    }
-}
-
-fn put_granted(out: &mut [u8], at: usize, frame: Frame) -> usize
-    ensures { λ r. ⌜ record { bytes = now (out .exit); end = r } ≡ puts (record { bytes = now (out .entry); end = at }) (granted frame) ⌝ }
-{
-    match frame {
-        Frame::NotAFrame => at,
-        Frame::Heartbeat { .. } => at,
-        Frame::Report { .. } => at,
-        Frame::Fail { .. } => at,
-        Frame::Request {
-            candidate,
-            current,
-            ..
-        } => {
-            let a = lines::put_text(out, at, b"  vote of epoch ");
-            let b = lines::put_number(out, a, current);
-            let c = lines::put_text(out, b, b" granted to node ");
-            let d = lines::put_number(out, c, candidate as u64);
-            lines::put_text(out, d, b"\n")
-        }
-        Frame::Ack { .. } => at,
-        Frame::Probe { .. } => at,
-        Frame::Tick { .. } => at,
-    }
-}
-
-fn put_won(out: &mut [u8], at: usize, node: Node, passed: usize) -> usize
-    ensures { λ r. ⌜ record { bytes = now (out .exit); end = r } ≡ puts (record { bytes = now (out .entry); end = at }) (won node passed) ⌝ }
-{
-    let own = state::record_at(node, node.me as usize);
-    let a = lines::put_text(out, at, b"  epoch ");
-    let b = lines::put_number(out, a, own.config);
-    let c = lines::put_text(out, b, b" won, slots taken over: ");
-    let d = lines::put_number(out, c, passed as u64);
-    lines::put_text(out, d, b"\n")
-}
-
-// ---- claims that were heard
 
 // A line for a number of slots, if there are any.
-fn put_many(out: &mut [u8], at: usize, what: &[u8], k: u64, n: u64) -> usize
-    ensures { λ r. ⌜ record { bytes = now (out .exit); end = r } ≡ puts (record { bytes = now (out .entry); end = at }) (many (now (what .entry)) k n) ⌝ }
-{
-    if n == 0 {
+fn put_many(out: &mut [u8], at: usize, row: u8, node: u64, count: u64) -> usize {
+    if count == 0 {
         return at;
     }
-    let a = lines::put_text(out, at, what);
-    let b = lines::put_number(out, a, k);
-    let c = lines::put_text(out, b, b": ");
-    let d = lines::put_number(out, c, n);
-    lines::put_text(out, d, b"\n")
+    put(out, at, text(row, node, count))
 }
 
-fn put_stale(out: &mut [u8], at: usize, k: u64, found: Found) -> usize
-    ensures { λ r. ⌜ record { bytes = now (out .exit); end = r } ≡ puts (record { bytes = now (out .entry); end = at }) (stale k found) ⌝ }
-{
-    match found {
-        Found::Nothing => at,
-        Found::At(slot) => {
-            let a = lines::put_text(out, at, b"  node ");
-            let b = lines::put_number(out, a, k);
-            let c = lines::put_text(out, b, b" is stale at slot ");
-            let d = lines::put_number(out, c, slot as u64);
-            lines::put_text(out, d, b"\n")
-        }
-    }
-}
-
-fn put_claims(out: &mut [u8], at: usize, k: u64, tally: Tally) -> usize
-    ensures { λ r. ⌜ record { bytes = now (out .exit); end = r } ≡ puts (record { bytes = now (out .entry); end = at }) (claims k tally) ⌝ }
-{
+fn put_tally(out: &mut [u8], at: usize, node: u64, tally: Tally) -> usize {
     let stale = tally.stale;
-    let bound = tally.bound as u64;
-    let rebound = tally.rebound as u64;
-    let a = put_many(out, at, b"  unowned slots that go to node ", k, bound);
-    let b = put_many(out, a, b"  slots that pass to node ", k, rebound);
-    put_stale(out, b, k, stale)
-}
-
-fn put_heard(out: &mut [u8], at: usize, frame: Frame, tally: Tally) -> usize
-    ensures { λ r. ⌜ record { bytes = now (out .exit); end = r } ≡ puts (record { bytes = now (out .entry); end = at }) (heard frame tally) ⌝ }
-{
-    match frame {
-        Frame::NotAFrame => at,
-        Frame::Heartbeat { sender, .. } => put_claims(out, at, sender as u64, tally),
-        Frame::Report { .. } => at,
-        Frame::Fail { .. } => at,
-        Frame::Request { .. } => at,
-        Frame::Ack { .. } => at,
-        Frame::Probe { .. } => at,
-        Frame::Tick { .. } => at,
+    let bound = put_many(out, at, BOUND, node, tally.bound as u64);
+    let end = put_many(out, bound, REBOUND, node, tally.rebound as u64);
+    match stale {
+        Found::Nothing => end,
+        Found::At(slot) => put(out, end, text(STALE, node, slot as u64)),
     }
 }
 
-// ---- below an answer
-
+// What came with a frame's answer, said by the node that the frame names: claims, a vote of the epoch `voted`, or a win of
+// the epoch `config` by which so many slots passed.
 fn put_news(
     out: &mut [u8],
     at: usize,
-    before: Node,
-    after: Node,
     answer: Answer,
-    frame: Frame,
-    passed: usize,
-) -> usize
-    ensures { λ r. ⌜ record { bytes = now (out .exit); end = r } ≡ puts (record { bytes = now (out .entry); end = at }) (news before after answer frame passed) ⌝ }
-{
-    let old = before.election;
-    let new = after.election;
+    named: u64,
+    voted: u64,
+    config: u64,
+    passed: u64,
+) -> usize {
     match answer {
-        Answer::Done => put_opened(out, at, old, new),
-        Answer::Heard(tally) => put_heard(out, at, frame, tally),
-        Answer::Granted => put_granted(out, at, frame),
-        Answer::Won => put_won(out, at, after, passed),
+        Answer::Heard(tally) => put_tally(out, at, named, tally),
+        Answer::Granted => put(out, at, text(GRANTED, voted, named)),
+        Answer::Won => put(out, at, text(WON, config, passed)),
         _ => at,
     }
 }
 
-// The lines below an answer: a line for each thing that people look for.
-pub fn put_notices(
-    out: &mut [u8],
-    at: usize,
-    before: Node,
-    after: Node,
-    answer: Answer,
-    frame: Frame,
-    passed: usize,
-) -> usize
-    ensures { λ r. ⌜ record { bytes = now (out .exit); end = r } ≡ puts (record { bytes = now (out .entry); end = at }) (notices before after answer frame passed) ⌝ }
-{
-    let a = put_changes(out, at, before, after);
-    put_news(out, a, before, after, answer, frame, passed)
+fn put_voters(out: &mut [u8], at: usize, voters: NodeSet) -> usize {
+    let mut end = at;
+    let mut k: u16 = 0;
+    while k < tables::MOST_NODES {
+        if !nodesets::has(voters, k) {
+            k += 1;
+            continue;
+        }
+        end = put(out, end, text(MEMBER, k as u64, 0));
+        k += 1;
+    }
+    put_none(out, at, end)
+}
+
+// An empty list.
+fn put_none(out: &mut [u8], at: usize, end: usize) -> usize {
+    if end > at {
+        return end;
+    }
+    put(out, at, text(NONE, 0, 0))
+}
+
+// An election that was opened.
+fn put_opened(out: &mut [u8], at: usize, election: Election) -> usize {
+    match election {
+        Election::Closed => at,
+        Election::Open { epoch, voters, .. } => {
+            let head = put(out, at, text(OPENED, epoch, 0));
+            let end = put_voters(out, head, voters);
+            put(out, end, text(END, 0, 0))
+        }
+    }
 }
 
 // ---- at the end
 
-fn put_role(out: &mut [u8], at: usize, known: Role) -> usize
-    ensures { λ r. ⌜ record { bytes = now (out .exit); end = r } ≡ puts (record { bytes = now (out .entry); end = at }) (role known) ⌝ }
-{
-    match known {
-        Role::Master => lines::put_text(out, at, b"master"),
-        Role::Replica(master) => {
-            let a = lines::put_text(out, at, b"replica of ");
-            lines::put_number(out, a, master as u64)
-        }
-    }
-}
-
-fn put_flag(out: &mut [u8], at: usize, k: u64, known: Flag) -> usize
-    ensures { λ r. ⌜ record { bytes = now (out .exit); end = r } ≡ puts (record { bytes = now (out .entry); end = at }) (flag k known) ⌝ }
-{
-    match known {
-        Flag::Clear => at,
-        Flag::Pfail => {
-            let a = lines::put_text(out, at, b" ");
-            let b = lines::put_number(out, a, k);
-            lines::put_text(out, b, b" PFAIL")
-        }
-        Flag::Fail(_) => {
-            let a = lines::put_text(out, at, b" ");
-            let b = lines::put_number(out, a, k);
-            lines::put_text(out, b, b" FAIL")
-        }
-    }
-}
-
-// No node of the roster is flagged.
-fn all_clear(node: Node) -> bool
-    ensures { λ r. ⌜ r ≡ allClear node ⌝ }
-{
-    let size = nodes(node);
+fn put_flags(out: &mut [u8], at: usize, flags: &[u8; tables::NODES]) -> usize {
+    let mut end = at;
     let mut k: usize = 0;
-    while k < size {
-        let known = node.records[k];
-        let flag = known.flag;
-        if state::is_clear(flag) {
+    while k < tables::NODES {
+        if flags[k] == 0 {
             k += 1;
             continue;
         }
-        return false;
-    }
-    true
-}
-
-fn put_listed(out: &mut [u8], at: usize, node: Node) -> usize
-    ensures { λ r. ⌜ record { bytes = now (out .exit); end = r } ≡ puts (record { bytes = now (out .entry); end = at }) (listed node) ⌝ }
-{
-    let size = nodes(node);
-    let mut end = at;
-    let mut k: usize = 0;
-    while k < size {
-        let known = node.records[k];
-        let flag = known.flag;
-        end = put_flag(out, end, k as u64, flag);
+        end = put(out, end, text(FLAGGED + flags[k] % 3, k as u64, 0));
         k += 1;
     }
-    end
+    put_none(out, at, end)
 }
 
-fn put_flags(out: &mut [u8], at: usize, node: Node) -> usize
-    ensures { λ r. ⌜ record { bytes = now (out .exit); end = r } ≡ puts (record { bytes = now (out .entry); end = at }) (flags node) ⌝ }
-{
-    if all_clear(node) {
-        return lines::put_text(out, at, b" none");
+fn of_role(node: u64, role: Role) -> Note {
+    match role {
+        Role::Master => text(MASTER, node, 0),
+        Role::Replica(master) => text(REPLICA, node, master as u64),
     }
-    put_listed(out, at, node)
-}
-
-fn put_self(out: &mut [u8], at: usize, node: Node) -> usize
-    ensures { λ r. ⌜ record { bytes = now (out .exit); end = r } ≡ puts (record { bytes = now (out .entry); end = at }) (self node) ⌝ }
-{
-    let own = state::record_at(node, node.me as usize);
-    let role = own.role;
-    let a = lines::put_text(out, at, b"node ");
-    let b = lines::put_number(out, a, node.me as u64);
-    let c = lines::put_text(out, b, b": ");
-    let d = put_role(out, c, role);
-    let e = lines::put_text(out, d, b", configEpoch ");
-    lines::put_number(out, e, own.config)
 }
 
 // A node at the end: who it is, how many slots it owns and which nodes it has flagged.
-pub fn put_summary(out: &mut [u8], at: usize, node: Node, slots: usize) -> usize
-    ensures { λ r. ⌜ record { bytes = now (out .exit); end = r } ≡ puts (record { bytes = now (out .entry); end = at }) (summary node slots) ⌝ }
-{
-    let a = put_self(out, at, node);
-    let b = lines::put_text(out, a, b", slots ");
-    let c = lines::put_number(out, b, slots as u64);
-    let d = lines::put_text(out, c, b", flags");
-    let e = put_flags(out, d, node);
-    lines::put_text(out, e, b"\n")
+pub fn put_node(
+    out: &mut [u8],
+    at: usize,
+    node: u64,
+    role: Role,
+    config: u64,
+    slots: u64,
+    flags: &[u8; tables::NODES],
+) -> usize {
+    let who = put(out, at, of_role(node, role));
+    let own = put(out, who, text(OWN, config, slots));
+    let end = put_flags(out, own, flags);
+    put(out, end, text(END, 0, 0))
 }
 
-// An epoch that was won.
-pub fn put_win(out: &mut [u8], at: usize, epoch: u64, node: u64, again: bool) -> usize
-    ensures { λ r. ⌜ record { bytes = now (out .exit); end = r } ≡ puts (record { bytes = now (out .entry); end = at }) (win epoch node again) ⌝ }
-{
-    let a = lines::put_text(out, at, b"epoch ");
-    let b = lines::put_number(out, a, epoch);
-    let c = lines::put_text(out, b, b" won by node ");
-    let d = lines::put_number(out, c, node);
-    if again {
-        return lines::put_text(out, d, b" AGAIN\n");
+// The wins that are kept are two numbers each: the epoch, and the node.
+pub const WINS: usize = 32;
+
+// What is said of a win: whether an earlier one was of the same epoch.
+fn of_win(wins: &[u64; WINS], at: usize) -> u8 {
+    let mut i: usize = 0;
+    while i < at {
+        if at >= WINS {
+            return WINNER;
+        }
+        if wins[i] == wins[at] {
+            return AGAIN;
+        }
+        i += 2;
     }
-    lines::put_text(out, d, b"\n")
+    WINNER
+}
+
+// Each win, in the order won.
+pub fn put_wins(out: &mut [u8], at: usize, wins: &[u64; WINS], won: usize) -> usize {
+    if won == 0 {
+        return put(out, at, text(NO_WINS, 0, 0));
+    }
+    let mut end = at;
+    let mut i: usize = 0;
+    while i < won {
+        if i >= WINS - 1 {
+            return end;
+        }
+        end = put(out, end, text(of_win(wins, i), wins[i], wins[i + 1]));
+        i += 2;
+    }
+    end
 }

@@ -1,0 +1,32 @@
+-- `replay::play` ends, and its tables and buffers keep their lengths.
+use mathlib.Core.Path.{_≡_, refl}
+use Prim.Native.Nat.{ℕ, _-_}
+use lib.ListN.{length, length-replicate}
+use borrow.Author.Needs.{needs}
+use Rattle.replay.proofs.play.Statement.{statement}
+use Rattle.replay.proofs.play.Tie as tie
+
+abbrev Inv-loop2 : tie.InvT-loop2
+Inv-loop2 buf slots₀ reports₀ out₀ nodes₀ run₀ source turns heard last k₀ slots reports out nodes run k = (length slots ≡ 262144) × (length reports ≡ 65536) × (length out ≡ 65536) × (length nodes ≡ 16)
+
+abbrev μ-loop2 : tie.MeasureT-loop2
+μ-loop2 buf slots₀ reports₀ out₀ nodes₀ run₀ source turns heard last k₀ slots reports out nodes run k = last - k
+
+abbrev Inv-loop : tie.InvT-loop
+Inv-loop buf₀ slots₀ reports₀ out₀ nodes₀ run₀ source₀ turns₀ buf slots reports out nodes run source turns = (length buf ≡ length buf₀) × (length slots ≡ 262144) × (length reports ≡ 65536) × (length out ≡ 65536) × (length nodes ≡ 16)
+
+abbrev μ-loop : tie.MeasureT-loop
+μ-loop buf₀ slots₀ reports₀ out₀ nodes₀ run₀ source₀ turns₀ buf slots reports out nodes run source turns = turns
+
+pub play-spec : {M : Type 1} → statement M
+play-spec =
+    tie.close
+    (tie.spec Inv-loop2 μ-loop2 Inv-loop μ-loop (λ c κs. search needs) (λ c κs. search needs)
+    (λ c. (refl, length-replicate {A = ℕ} 262144 65535, length-replicate {A = ℕ} 65536 0, length-replicate {A = ℕ} 65536 0, refl)) (λ c κs. search needs)
+    (λ c κs. search needs) (λ c κs. search needs) (λ c. search needs) (λ c κs. search needs) (λ c. search needs)
+    (λ c. search needs) (λ c. search needs) (λ c. search needs) (λ c. search needs) (λ c. search needs)
+    (λ c κs. search needs) (λ c κs. search needs) (λ c. search needs) (λ c. search needs) (λ c. search needs)
+    (λ c. search needs) (λ c. (search needs, search needs, search needs, search needs)) (λ c. search needs)
+    (λ c κs. search needs) (λ c. search needs)
+    (λ c. (search needs, search needs, search needs, search needs, search needs)) (λ c. search needs)
+    (λ c. search needs) (λ c κs. search needs) (λ c. search needs) (λ c. search needs))
