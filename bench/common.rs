@@ -36,19 +36,40 @@ fn once(calls: usize, work: &mut dyn FnMut(usize) -> u64) -> f64 {
     start.elapsed().as_nanos() as f64 / calls as f64
 }
 
-/// Times both in turns, so that both meet the same machine, and prints the best time of each and the ratio.
-/// `work(i)` does the i-th call; what it answers is only kept from being optimised away.
+/// The best of 41 rounds of each, in nanoseconds a call. They take turns, so that all meet the same machine. `work(i)` does the
+/// i-th call; what it answers is only kept from being optimised away.
+pub fn times<const N: usize>(calls: usize, mut works: [&mut dyn FnMut(usize) -> u64; N]) -> [f64; N] {
+    let mut best = [f64::MAX; N];
+    for _ in 0..41 {
+        for (time, work) in best.iter_mut().zip(&mut works) {
+            *time = time.min(once(calls, work));
+        }
+    }
+    best
+}
+
+/// Times the two, and prints both times and the ratio.
 pub fn compare(
     name: &str,
     calls: usize,
     mut proved: impl FnMut(usize) -> u64,
     mut plain: impl FnMut(usize) -> u64,
-) -> f64 {
-    let (mut ours, mut theirs) = (f64::MAX, f64::MAX);
-    for _ in 0..41 {
-        ours = ours.min(once(calls, &mut proved));
-        theirs = theirs.min(once(calls, &mut plain));
-    }
+) {
+    let [ours, theirs] = times(calls, [&mut proved, &mut plain]);
     println!("{name:<40} {ours:>12.1} {theirs:>12.1} {:>8.2}", ours / theirs);
-    ours / theirs
 }
+
+pub fn hex(bytes: &[u8]) -> Vec<u8> {
+    bytes.iter().flat_map(|b| format!("{b:02x}").into_bytes()).collect()
+}
+
+/// The values of the hexadecimal digits, 255 for any other character.
+pub static VALUES: [u8; 256] = {
+    let mut values = [255; 256];
+    let mut v = 0;
+    while v < 16 {
+        values[b"0123456789abcdef"[v] as usize] = v as u8;
+        v += 1;
+    }
+    values
+};

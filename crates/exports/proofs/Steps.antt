@@ -3,15 +3,8 @@ use mathlib.Core.Path.{_≡_, refl, sym, ap, _∙_}
 use mathlib.Core.List.{List}
 use Prim.Native.Nat.{ℕ, zero, suc, _-_, _≤_, _<_}
 use native.Mathlib.Omega.{arith}
-use Rattle.answers.specs.declared.Answer.the-variants.{Done}
-use Rattle.cases.specs.Cases.{casesNode}
-use Rattle.state.specs.Outcomes.{answered, Stepped}
-use Rattle.state.specs.declared.Node.{Node}
-use Rattle.exports.specs.Steps.{first, onceMore, again}
-
-pub begins : (times : ℕ) (line slots reports : List ℕ) (n : Node) → n ≡ casesNode
-    → again times line (first slots reports) ≡ again times line (record { outcome = answered n Done; slots = slots; reports = reports })
-begins times line slots reports n e = rw e
+use Rattle.state.specs.Outcomes.{Stepped}
+use Rattle.exports.specs.Steps.{onceMore, again}
 
 pub more : (line : List ℕ) (left : ℕ) (s t : Stepped) → 0 < left → t ≡ onceMore line s → again left line s ≡ again (left - 1) line t
 unfolding again

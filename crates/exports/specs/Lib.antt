@@ -1,3 +1,4 @@
 pub mod Digest
 pub mod Frames
+pub mod Rosters
 pub mod Steps

@@ -1,16 +1,16 @@
--- One line handed to the node of the cases again and again, for callers that time it.
+-- One line handed to a node again and again, for callers that time it.
 use Prim.Native.Nat.{ℕ, zero, suc, _+_, _*_, _%_}
 use mathlib.Core.List.{List}
 use Rattle.answers.specs.Answers.{number}
 use Rattle.answers.specs.declared.Answer.the-variants.{Done}
-use Rattle.cases.specs.Cases.{casesNode}
 use Rattle.node.specs.Step.{onFrame}
 use Rattle.state.specs.Outcomes.{answered, Stepped}
+use Rattle.state.specs.declared.Node.{Node}
 use Rattle.state.specs.declared.Outcome.{Outcome}
 
 -- before the first line
-abbrev pub first : List ℕ → List ℕ → Stepped
-first slots reports = record { outcome = answered casesNode Done; slots = slots; reports = reports }
+abbrev pub first : Node → List ℕ → List ℕ → Stepped
+first node slots reports = record { outcome = answered node Done; slots = slots; reports = reports }
 
 -- the line once more
 abbrev pub onceMore : List ℕ → Stepped → Stepped

@@ -1,21 +1,40 @@
 // What C and Rust programs may call: each function here hands on to a proved one, under a name of its own.
 ghost use mathlib.Core.Path.{_≡_};
+ghost use Prim.Native.Nat.{_≤_};
 ghost use Rattle.slots.specs.Key.{keySlot};
 ghost use Rattle.ownership.specs.Claim.{claimant, claim};
 ghost use Rattle.state.specs.Outcomes.{Stepped};
 ghost use Rattle.exports.specs.Digest.{place, digest, digested, Digested};
+ghost use Rattle.cases.specs.Cases.{casesNode};
+ghost use Rattle.exports.specs.Rosters.{silent, silenced, room, roster};
 ghost use Rattle.exports.specs.Steps.{first, again, outcomeDigest, repeated, Repeated};
-ghost use Rattle.frames.specs.Frames.{frameOf};
-ghost use Rattle.frames.specs.Lines.{verdictByte, echoByte};
-ghost use Rattle.exports.specs.Frames.{mixed, ofHeartbeat, frameDigest, claims};
+ghost use mathlib.Core.List.{[], _∷_};
+ghost use Rattle.frames.specs.Frames.{layoutOf, bitmapOf, frameOf};
+ghost use Rattle.frames.specs.Lines.{verdictByte, echoByte, roleBytes, kindBytes};
+ghost use Rattle.exports.specs.Frames.{headBytes, mixed, frameDigest, byLayout, bitmapAfter};
 use answers::Answer;
 use answers::Tally;
-use frames::Frame;
+use frames::Decoded;
+use frames::Header;
+use frames::Kind;
+use frames::Layout;
 use state::Echo;
+use state::Flag;
+use state::Moment;
+use state::Node;
 use state::Outcome;
+use state::Record;
 use state::Role;
 use state::Verdict;
 use tables::Found;
+
+// The first four bytes of a frame.
+struct Head {
+    kind: u8,
+    x: u8,
+    y: u8,
+    z: u8,
+}
 
 // The slot of a key: document 01, "Keys to slots".
 #[no_mangle]
@@ -72,11 +91,14 @@ fn outcome_digest(outcome: Outcome) -> u64
     wide(answers::number(answer)) + node.current % 65536 * 256 + node.voted % 65536 * 16777216
 }
 
-fn mixed(k: u8, x: u8, y: u8, z: u8, a: u64, b: u64, c: u64) -> u64
-    ensures { λ r. ⌜ r ≡ mixed k x y z a b c ⌝ }
+fn mixed(head: Head, header: Header) -> u64
+    ensures { λ r. ⌜ r ≡ mixed (headBytes head) header ⌝ }
 {
-    let four = wide(k) + wide(x) * 256 + wide(y) * 65536 + wide(z) * 16777216;
-    four ^ a ^ (b << 1) ^ (c << 2)
+    let four = wide(head.kind)
+        + wide(head.x) * 256
+        + wide(head.y) * 65536
+        + wide(head.z) * 16777216;
+    four ^ header.epoch ^ (header.config << 1) ^ (header.time << 2)
 }
 
 fn verdict_byte(verdict: Verdict) -> u8
@@ -98,120 +120,75 @@ fn echo_byte(echo: Echo) -> u8
     }
 }
 
-fn of_heartbeat(sender: u8, role: Role, current: u64, config: u64, time: u64) -> u64
-    ensures { λ r. ⌜ r ≡ ofHeartbeat sender role current config time ⌝ }
+fn head_of(kind: u8, x: u8, y: u8, z: u8) -> Head
+    ensures { λ r. ⌜ headBytes r ≡ kind ∷ x ∷ y ∷ z ∷ [] ⌝ }
+{
+    Head { kind, x, y, z }
+}
+
+fn of_heartbeat(sender: u8, role: Role) -> Head
+    ensures { λ r. ⌜ headBytes r ≡ 1 ∷ sender ∷ roleBytes role ⌝ }
 {
     match role {
-        Role::Master => mixed(1, sender, 0, 0, current, config, time),
-        Role::Replica(followed) => mixed(1, sender, 1, followed, current, config, time),
+        Role::Master => head_of(1, sender, 0, 0),
+        Role::Replica(followed) => head_of(1, sender, 1, followed),
     }
 }
 
-fn frame_digest(frame: Frame) -> u64
-    ensures { λ r. ⌜ r ≡ frameDigest frame ⌝ }
+// The first four bytes of a frame.
+fn kind_head(kind: Kind) -> Head
+    ensures { λ r. ⌜ headBytes r ≡ kindBytes kind ⌝ }
 {
-    match frame {
-        Frame::NotAFrame => 0,
-        Frame::Heartbeat {
-            sender,
-            role,
-            current,
-            config,
-            time,
-        } => of_heartbeat(sender, role, current, config, time),
-        Frame::Report {
+    match kind {
+        Kind::Heartbeat { sender, role } => of_heartbeat(sender, role),
+        Kind::Report {
             reporter,
             subject,
             verdict,
-            time,
-        } => mixed(2, reporter, subject, verdict_byte(verdict), 0, 0, time),
-        Frame::Fail {
-            sender,
-            subject,
-            time,
-        } => mixed(3, sender, subject, 0, 0, 0, time),
-        Frame::Request {
-            candidate,
-            current,
-            config,
-            time,
-        } => mixed(4, candidate, 0, 0, current, config, time),
-        Frame::Ack {
-            voter,
-            candidate,
-            epoch,
-            time,
-        } => mixed(5, voter, candidate, 0, epoch, 0, time),
-        Frame::Probe {
-            subject,
-            echo,
-            time,
-        } => mixed(6, subject, echo_byte(echo), 0, 0, 0, time),
-        Frame::Tick { time } => mixed(7, 0, 0, 0, 0, 0, time),
+        } => head_of(2, reporter, subject, verdict_byte(verdict)),
+        Kind::Fail { sender, subject } => head_of(3, sender, subject, 0),
+        Kind::Request { candidate } => head_of(4, candidate, 0, 0),
+        Kind::Ack { voter, candidate } => head_of(5, voter, candidate, 0),
+        Kind::Probe { subject, echo } => head_of(6, subject, echo_byte(echo), 0),
+        Kind::Tick => head_of(7, 0, 0, 0),
     }
 }
 
-fn bitmap_of(frame: Frame, line: &[u8], bitmap: &mut [u8; 2048])
-    ensures { λ _. ⌜ now (bitmap .exit) ≡ claims frame (now (line .entry)) (now (bitmap .entry)) ⌝ }
+fn bitmap_of(kind: Kind, line: &[u8], bitmap: &mut [u8; 2048])
+    ensures { λ _. ⌜ now (bitmap .exit) ≡ byLayout (layoutOf kind) (bitmapOf (now (line .entry))) (now (bitmap .entry)) ⌝ }
 {
-    match frame {
-        Frame::NotAFrame => {}
-        Frame::Heartbeat {
-            sender: _,
-            role: _,
-            current: _,
-            config: _,
-            time: _,
-        } => frames::bitmap(line, bitmap),
-        Frame::Report {
-            reporter: _,
-            subject: _,
-            verdict: _,
-            time: _,
-        } => {}
-        Frame::Fail {
-            sender: _,
-            subject: _,
-            time: _,
-        } => {}
-        Frame::Request {
-            candidate: _,
-            current: _,
-            config: _,
-            time: _,
-        } => frames::bitmap(line, bitmap),
-        Frame::Ack {
-            voter: _,
-            candidate: _,
-            epoch: _,
-            time: _,
-        } => {}
-        Frame::Probe {
-            subject: _,
-            echo: _,
-            time: _,
-        } => {}
-        Frame::Tick { time: _ } => {}
+    let layout = frames::layout_of(kind);
+    match layout {
+        Layout::Short => {}
+        Layout::Middle => {}
+        Layout::Long => frames::bitmap(line, bitmap),
     }
 }
 
 // A line decoded: its frame in one number, and for kinds 1 and 4 the bitmap.
 #[no_mangle]
 pub extern "C" fn ukweribaso_decode(line: &[u8], bitmap: &mut [u8; 2048]) -> u64
-    ensures { λ r. ⌜ (r ≡ frameDigest (frameOf (now (line .entry)))) × (now (bitmap .exit) ≡ claims (frameOf (now (line .entry))) (now (line .entry)) (now (bitmap .entry))) ⌝ }
+    ensures { λ r. ⌜ (r ≡ frameDigest (frameOf (now (line .entry)))) × (now (bitmap .exit) ≡ bitmapAfter (frameOf (now (line .entry))) (now (line .entry)) (now (bitmap .entry))) ⌝ }
 {
-    let frame = frames::decode(line);
-    bitmap_of(frame, line, bitmap);
-    frame_digest(frame)
+    let decoded = frames::decode(line);
+    match decoded {
+        Decoded::NotAFrame => 0,
+        Decoded::Good(frame) => {
+            let kind = frame.kind;
+            let header = frame.header;
+            bitmap_of(kind, line, bitmap);
+            mixed(kind_head(kind), header)
+        }
+    }
 }
 
-// The same line so many times to the node of the cases, which starts fresh, for callers that time it.
-fn repeat(slots: &mut [u16], reports: &mut [u64], line: &[u8], times: usize) -> Outcome
-    ensures { λ r. ⌜ record { outcome = r; slots = now (slots .exit); reports = now (reports .exit) } ≡ again times (now (line .entry)) (first (now (slots .entry)) (now (reports .entry))) ⌝ }
+// The same line so many times to a node, for callers that time it.
+fn repeat(node: Node, slots: &mut [u16], reports: &mut [u64], line: &[u8], times: usize) -> Outcome
+    ensures { λ r. ⌜ record { outcome = r; slots = now (slots .exit); reports = now (reports .exit) } ≡ again times (now (line .entry)) (first node (now (slots .entry)) (now (reports .entry))) ⌝ }
 {
     let mut outcome = Outcome {
         answer: Answer::Done,
-        node: cases::node(),
+        node,
     };
     let mut left = times;
     while left > 0 {
@@ -222,6 +199,7 @@ fn repeat(slots: &mut [u16], reports: &mut [u64], line: &[u8], times: usize) -> 
     outcome
 }
 
+// To the node of the cases, which starts fresh.
 #[no_mangle]
 pub extern "C" fn ukweribaso_frames(
     slots: &mut [u16],
@@ -229,7 +207,64 @@ pub extern "C" fn ukweribaso_frames(
     line: &[u8],
     times: usize,
 ) -> u64
-    ensures { λ r. ⌜ record { digest = r; slots = now (slots .exit); reports = now (reports .exit) } ≡ repeated (again times (now (line .entry)) (first (now (slots .entry)) (now (reports .entry)))) ⌝ }
+    ensures { λ r. ⌜ record { digest = r; slots = now (slots .exit); reports = now (reports .exit) } ≡ repeated (again times (now (line .entry)) (first casesNode (now (slots .entry)) (now (reports .entry)))) ⌝ }
 {
-    outcome_digest(repeat(slots, reports, line, times))
+    outcome_digest(repeat(cases::node(), slots, reports, line, times))
+}
+
+// A node that has not answered the ping which was sent to it at time 0.
+fn silent(known: Record) -> Record
+    ensures { λ r. ⌜ r ≡ silent known ⌝ }
+{
+    state::with_ping(state::with_flag(known, Flag::Pfail), Moment::At(0))
+}
+
+// The nodes from 2 on are 62.
+fn room(count: u16) -> u16
+    ensures { λ r. ⌜ (r ≡ room count) × (r ≤ 62) ⌝ }
+{
+    if count < 62 {
+        return count;
+    }
+    62
+}
+
+// So many nodes from 2 on are silent.
+fn silence(node: Node, count: u16) -> Node
+    ensures { λ r. ⌜ r ≡ silenced (room count) node ⌝ }
+{
+    let end = room(count);
+    let mut next = node;
+    let mut k: u16 = 0;
+    while k < end {
+        let at = k as usize + 2;
+        let known = next.records[at];
+        next.records[at] = silent(known);
+        k += 1;
+    }
+    next
+}
+
+fn roster(size: u16, suspected: u16) -> Node
+    ensures { λ r. ⌜ r ≡ roster size suspected ⌝ }
+{
+    let mut roles = [Role::Master; tables::NODES];
+    roles[3] = Role::Replica(0);
+    roles[4] = Role::Replica(0);
+    silence(fresh::node(fresh::ids(), roles, size, 1, 1000), suspected)
+}
+
+// To node 1 of a roster of `size` nodes, of which so many are suspected.
+#[no_mangle]
+pub extern "C" fn ukweribaso_roster_frames(
+    slots: &mut [u16],
+    reports: &mut [u64],
+    line: &[u8],
+    times: usize,
+    size: u16,
+    suspected: u16,
+) -> u64
+    ensures { λ r. ⌜ record { digest = r; slots = now (slots .exit); reports = now (reports .exit) } ≡ repeated (again times (now (line .entry)) (first (roster size suspected) (now (slots .entry)) (now (reports .entry)))) ⌝ }
+{
+    outcome_digest(repeat(roster(size, suspected), slots, reports, line, times))
 }

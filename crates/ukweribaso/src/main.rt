@@ -9,6 +9,9 @@ use state::Node;
 use state::Outcome;
 use tables::Found;
 
+// Entries of the slot table.
+const SLOTS: usize = tables::SLOTS as usize;
+
 // Input is read in pieces of up to this length. The longest frame has 4,152 digits; a line that does not fit is none.
 const ROOM: usize = 65536;
 
@@ -151,8 +154,8 @@ fn run(slots: &mut [u16], reports: &mut [u64], buf: &mut [u8], out: &mut [u8]) {
 }
 
 fn main() {
-    let mut slots = [65535u16; 16384];
-    let mut reports = [0u64; 4096];
+    let mut slots = [tables::UNOWNED; SLOTS];
+    let mut reports = [0u64; tables::REPORTS];
     let mut buf = [0u8; ROOM];
     let mut out = [0u8; TEXT];
     run(&mut slots, &mut reports, &mut buf, &mut out);

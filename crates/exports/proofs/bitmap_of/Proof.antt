@@ -3,79 +3,39 @@ use borrow.Author.Needs.{needs}
 use Rattle.exports.proofs.bitmap_of.Statement.{statement}
 use Rattle.exports.proofs.bitmap_of.Tie as tie
 
+layout-of-requires : tie.Need-layout-of-requires
+layout-of-requires c κs = search needs
+
 enum-told : tie.Need-enum-told
 enum-told c = search needs
 
 enum-told-2 : tie.Need-enum-told-2
 enum-told-2 c = search needs
 
-bitmap-requires : tie.Need-bitmap-requires
-bitmap-requires c κs = search needs
-
 enum-told-3 : tie.Need-enum-told-3
 enum-told-3 c = search needs
 
-enum-told-4 : tie.Need-enum-told-4
-enum-told-4 c = search needs
-
-enum-told-5 : tie.Need-enum-told-5
-enum-told-5 c = search needs
-
-bitmap-requires-2 : tie.Need-bitmap-requires-2
-bitmap-requires-2 c κs = search needs
-
-enum-told-6 : tie.Need-enum-told-6
-enum-told-6 c = search needs
-
-enum-told-7 : tie.Need-enum-told-7
-enum-told-7 c = search needs
-
-enum-told-8 : tie.Need-enum-told-8
-enum-told-8 c = search needs
+bitmap-requires : tie.Need-bitmap-requires
+bitmap-requires c κs = search needs
 
 returns : tie.Need-returns
-returns c = simp (c .enum-told .given .1)
+returns c = rw (← c .before .before .layout-of .ensures, c .enum-told .given .1)
 
 returns-2 : tie.Need-returns-2
-returns-2 c = rw (c .before .before .enum-told2 .given .1) (c .bitmap .ensures)
+returns-2 c = rw (← c .before .before .layout-of .ensures, c .enum-told2 .given .1)
 
 returns-3 : tie.Need-returns-3
-returns-3 c = simp (c .enum-told3 .given .1)
-
-returns-4 : tie.Need-returns-4
-returns-4 c = simp (c .enum-told4 .given .1)
-
-returns-5 : tie.Need-returns-5
-returns-5 c = rw (c .before .before .enum-told5 .given .1) (c .bitmap2 .ensures)
-
-returns-6 : tie.Need-returns-6
-returns-6 c = simp (c .enum-told6 .given .1)
-
-returns-7 : tie.Need-returns-7
-returns-7 c = simp (c .enum-told7 .given .1)
-
-returns-8 : tie.Need-returns-8
-returns-8 c = simp (c .enum-told8 .given .1)
+returns-3 c = let e = c .before .before in rw (← e .before .before .layout-of .ensures, e .enum-told3 .given .1) (c .bitmap .ensures)
 
 pub bitmap-of-spec : {M : Type 1} → statement M
 bitmap-of-spec =
     tie.close
     (tie.spec
+    layout-of-requires
     enum-told
     enum-told-2
-    bitmap-requires
     enum-told-3
-    enum-told-4
-    enum-told-5
-    bitmap-requires-2
-    enum-told-6
-    enum-told-7
-    enum-told-8
+    bitmap-requires
     returns
     returns-2
-    returns-3
-    returns-4
-    returns-5
-    returns-6
-    returns-7
-    returns-8)
+    returns-3)

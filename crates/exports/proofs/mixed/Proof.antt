@@ -34,7 +34,7 @@ add-four-3 : tie.Need-add-four-3
 add-four-3 c = search needs
 
 returns : tie.Need-returns
-returns c = simp (c .wide4 .ensures, c .before .wide3 .ensures, c .before .before .wide2 .ensures, c .before .before .before .wide .ensures)
+returns c = let w = c .before .before .before in simp (w .wide4 .ensures, w .before .wide3 .ensures, w .before .before .wide2 .ensures, w .before .before .before .wide .ensures)
 
 pub mixed-spec : {M : Type 1} → statement M
 mixed-spec =

@@ -1,25 +1,22 @@
 -- `exports::repeat`: what is left is the line so many times more.
-use mathlib.Core.Path.{_≡_, sym, _∙_}
+use mathlib.Core.Path.{_≡_, refl, sym, _∙_}
 use lib.ListN.{length}
 use Rattle.state.specs.Outcomes.{Stepped}
-use Rattle.exports.specs.Steps.{first, again}
-use Rattle.exports.proofs.Steps.{begins, more, none}
+use Rattle.exports.specs.Steps.{again}
+use Rattle.exports.proofs.Steps.{more, none}
 use borrow.Author.Needs.{needs}
 use Rattle.exports.proofs.repeat.Statement.{statement}
 use Rattle.exports.proofs.repeat.Tie as tie
 
 abbrev Inv-loop : tie.InvT-loop
 Inv-loop slots₀ reports₀ line times outcome₀ left₀ slots reports outcome left =
-    (again times line (first slots₀ reports₀) ≡ again left line (record { outcome = outcome; slots = slots; reports = reports })) × (length slots ≡ length slots₀) × (length reports ≡ length reports₀)
+    (again times line (record { outcome = outcome₀; slots = slots₀; reports = reports₀ }) ≡ again left line (record { outcome = outcome; slots = slots; reports = reports })) × (length slots ≡ length slots₀) × (length reports ≡ length reports₀)
 
 abbrev μ-loop : tie.MeasureT-loop
 μ-loop slots₀ reports₀ line times outcome₀ left₀ slots reports outcome left = left
 
-node-requires : tie.Need-node-requires Inv-loop μ-loop
-node-requires c κs = search needs
-
 loop-holds : tie.Need-loop-holds Inv-loop μ-loop
-loop-holds c = (begins _ _ _ _ _ (c .node .ensures), search needs, search needs)
+loop-holds c = (refl, search needs, search needs)
 
 frame-requires : tie.Need-frame-requires Inv-loop μ-loop
 frame-requires c κs = search needs
@@ -50,7 +47,6 @@ repeat-spec =
     (tie.spec
     Inv-loop
     μ-loop
-    node-requires
     loop-holds
     frame-requires
     sub-left

@@ -6,15 +6,37 @@ use Rattle.exports.proofs.ukweribaso_decode.Tie as tie
 decode-requires : tie.Need-decode-requires
 decode-requires c κs = search needs
 
+enum-told : tie.Need-enum-told
+enum-told c = search needs
+
+enum-known-decoded : tie.Need-enum-known-decoded
+enum-known-decoded c = search needs
+
 bitmap-of-requires : tie.Need-bitmap-of-requires
 bitmap-of-requires c κs = search needs
 
-frame-digest-requires : tie.Need-frame-digest-requires
-frame-digest-requires c κs = search needs
+kind-head-requires : tie.Need-kind-head-requires
+kind-head-requires c κs = search needs
+
+mixed-requires : tie.Need-mixed-requires
+mixed-requires c κs = search needs
 
 returns : tie.Need-returns
-returns c = (rw (← c .before .before .before .decode .ensures) (c .frame-digest .ensures), rw (← c .before .before .before .decode .ensures) (c .before .bitmap-of .ensures))
+returns c = let d = c .before .before in (rw (← d .decode .ensures, c .enum-told .given .1), rw (← d .decode .ensures, c .enum-told .given .1))
+
+returns-2 : tie.Need-returns-2
+returns-2 c = let b = c .before .before in let g = b .before .before .before .before in let d = g .before .before in
+    (rw (← d .decode .ensures, g .decoded .given .1, ← c .before .kind-head .ensures) (c .mixed .ensures), rw (← d .decode .ensures, g .decoded .given .1) (b .bitmap-of .ensures))
 
 pub ukweribaso-decode-spec : {M : Type 1} → statement M
 ukweribaso-decode-spec =
-    tie.close (tie.spec decode-requires bitmap-of-requires frame-digest-requires returns)
+    tie.close
+    (tie.spec
+    decode-requires
+    enum-told
+    enum-known-decoded
+    bitmap-of-requires
+    kind-head-requires
+    mixed-requires
+    returns
+    returns-2)

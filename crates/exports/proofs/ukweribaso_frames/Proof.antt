@@ -3,6 +3,9 @@ use borrow.Author.Needs.{needs}
 use Rattle.exports.proofs.ukweribaso_frames.Statement.{statement}
 use Rattle.exports.proofs.ukweribaso_frames.Tie as tie
 
+node-requires : tie.Need-node-requires
+node-requires c κs = search needs
+
 repeat-requires : tie.Need-repeat-requires
 repeat-requires c κs = search needs
 
@@ -16,8 +19,15 @@ same-length-2 : tie.Need-same-length-2
 same-length-2 c = search needs
 
 returns : tie.Need-returns
-returns c = rw (c .outcome-digest .ensures, ← c .before .before .before .before .before .repeat .ensures)
+returns c = rw (c .outcome-digest .ensures, ← c .before .before .before .before .before .before .before .before .node .ensures, ← c .before .before .before .before .before .repeat .ensures)
 
 pub ukweribaso-frames-spec : {M : Type 1} → statement M
 ukweribaso-frames-spec =
-    tie.close (tie.spec repeat-requires outcome-digest-requires same-length same-length-2 returns)
+    tie.close
+    (tie.spec
+    node-requires
+    repeat-requires
+    outcome-digest-requires
+    same-length
+    same-length-2
+    returns)
