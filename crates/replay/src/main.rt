@@ -40,6 +40,10 @@ const FULL: usize = 57344;
 // The longest path of a file.
 const PATH: usize = 4096;
 
+// What the input's end is taken for, among the forms of a line: every node's line of the summary. Below the forms' names for
+// a line that says nothing or is too long, above all others.
+const SUMMARY: u8 = calls::SILENT - 1;
+
 // ---- lines
 
 // Where lines are read from, and where the next one stands in the buffer.
@@ -386,6 +390,15 @@ fn do_other(node: Node, slots: &[u16], line: &[u8], call: Call) -> Done {
     finished(node, tellings::of_redirect(routed(node, slots, line, call)))
 }
 
+// A node at the end, and how many slots it owns.
+fn last_seen(node: Node, slots: &[u16], k: usize) -> Done {
+    let known = own(node);
+    let role = known.role;
+    let mut done = finished(node, tellings::of_role(k as u64, role));
+    done.passed = owned(slots, short(k as u64));
+    done
+}
+
 // What a line does to node k, whose tables are lent.
 fn act(
     node: Node,
@@ -397,6 +410,9 @@ fn act(
 ) -> Done {
     if call.form == calls::FRAME {
         return do_frame(node, slots, reports, line);
+    }
+    if call.form == SUMMARY {
+        return last_seen(node, slots, k);
     }
     if call.form > calls::FRAME {
         return do_other(node, slots, line, call);
@@ -532,6 +548,13 @@ struct Span {
 
 // The call of a line; none where there is more to read.
 fn call_of(source: Source, line: &[u8]) -> Call {
+    if source.ended {
+        return Call {
+            form: SUMMARY,
+            wrong: 0,
+            numbers: [0; 8],
+        };
+    }
     if !source.found {
         return calls::silent();
     }
@@ -552,7 +575,7 @@ fn fault_of(call: Call, run: Run) -> Note {
     if call.form == calls::TOO_LONG {
         return tellings::text(tellings::TOO_LONG, 0, 0);
     }
-    if call.form == calls::SILENT {
+    if call.form >= SUMMARY {
         return tellings::text(tellings::END, 0, 0);
     }
     let place = calls::stranger(call, run.size);
@@ -581,8 +604,11 @@ fn mistimed(call: Call, run: Run, place: usize) -> Note {
     tellings::text(tellings::END, 0, 0)
 }
 
-// A line that does not fit, or cannot be done.
+// A line that does not fit, or cannot be done, and the head of the summary.
 fn put_fault(out: &mut [u8], at: usize, count: u64, call: Call, fault: Note) -> usize {
+    if call.form == SUMMARY {
+        return tellings::put(out, at, tellings::text(tellings::SUMMARY, 0, 0));
+    }
     if fault.row == tellings::END {
         return at;
     }
@@ -631,7 +657,7 @@ fn span_of(call: Call, fault: Note, size: u64) -> Span
     match form {
         calls::SILENT => stretch(0, 0),
         calls::ROSTER => stretch(0, said[1]),
-        calls::REPLICA => stretch(0, size),
+        calls::REPLICA | SUMMARY => stretch(0, size),
         calls::SLOTS => {
             if said[5] == calls::ALL {
                 return stretch(0, size);
@@ -662,14 +688,6 @@ fn after(past: Run, call: Call, fault: Note, at: usize) -> Run {
     }
     run.begun = true;
     run
-}
-
-// A node at the end.
-fn put_node(out: &mut [u8], at: usize, node: Node, slots: &[u16], k: usize) -> usize {
-    let known = own(node);
-    let role = known.role;
-    let count = owned(slots, short(k as u64));
-    tellings::put_node(out, at, k as u64, role, known.config, count, &flags(node))
 }
 
 // A line that was heard: its call, the nodes that it is about, and the run after it.
@@ -742,32 +760,9 @@ fn play(begin: Source, buf: &mut [u8]) {
         }
         run.at = lines::drained(&out, run.at, FULL);
     }
-    put_summary(&mut out, run, nodes, &slots);
-}
-
-// The slot table of node k.
-fn table(slots: &[u16], k: usize) -> &[u16] {
-    let from = k % ROOM * SLOTS;
-    let to = from + SLOTS;
-    if to > slots.len() {
-        return &slots[..0];
-    }
-    &slots[from..to]
-}
-
-// Each node, and the wins.
-fn put_summary(out: &mut [u8], run: Run, nodes: [Node; ROOM], slots: &[u16]) {
-    let mut at = tellings::put(out, run.at, tellings::text(tellings::SUMMARY, 0, 0));
-    let size = room(run.size);
-    let mut k: usize = 0;
-    while k < size {
-        let here = nodes[k];
-        at = put_node(out, at, here, table(slots, k), k);
-        k += 1;
-    }
     let wins = run.wins;
-    at = tellings::put_wins(out, at, &wins, run.won);
-    lines::flush(out, at);
+    let end = tellings::put_wins(&mut out, run.at, &wins, run.won);
+    lines::flush(&out, end);
 }
 
 // ---- files

@@ -190,7 +190,7 @@ fn own_sound(node: Node, own: Record) -> bool
     false
 }
 
-// The state's arrays: a function that indexes them copies the state, so no other one of a frame's step does.
+// The state's arrays, all of them here: each function that indexes the node that it is given copies it whole.
 fn arrays_sound(node: Node) -> bool
     requires { ⌜ (boundsKept node ≡ true) × (node .me < node .size) × (node .voted ≤ node .current) ⌝ }
     ensures { λ r. ⌜ r ≡ sound node ⌝ }

@@ -302,6 +302,9 @@ pub fn put_told(out: &mut [u8], at: usize, told: Told) -> usize {
     if said.row == END {
         return at;
     }
+    if said.row >= MASTER {
+        return put_node(out, at, said, told.config, told.passed, &after);
+    }
     let a = put(out, at, text(HEAD, told.line, told.node));
     let b = put(out, a, said);
     let c = put(out, b, text(EPOCHS, told.current, told.voted));
@@ -436,7 +439,7 @@ fn put_flags(out: &mut [u8], at: usize, flags: &[u8; tables::NODES]) -> usize {
     put_none(out, at, end)
 }
 
-fn of_role(node: u64, role: Role) -> Note {
+pub fn of_role(node: u64, role: Role) -> Note {
     match role {
         Role::Master => text(MASTER, node, 0),
         Role::Replica(master) => text(REPLICA, node, master as u64),
@@ -444,17 +447,16 @@ fn of_role(node: u64, role: Role) -> Note {
 }
 
 // A node at the end: who it is, how many slots it owns and which nodes it has flagged.
-pub fn put_node(
+fn put_node(
     out: &mut [u8],
     at: usize,
-    node: u64,
-    role: Role,
+    who: Note,
     config: u64,
     slots: u64,
     flags: &[u8; tables::NODES],
 ) -> usize {
-    let who = put(out, at, of_role(node, role));
-    let own = put(out, who, text(OWN, config, slots));
+    let name = put(out, at, who);
+    let own = put(out, name, text(OWN, config, slots));
     let end = put_flags(out, own, flags);
     put(out, end, text(END, 0, 0))
 }

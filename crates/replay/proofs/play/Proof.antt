@@ -22,11 +22,11 @@ pub play-spec : {M : Type 1} → statement M
 play-spec =
     tie.close
     (tie.spec Inv-loop2 μ-loop2 Inv-loop μ-loop (λ c κs. search needs) (λ c κs. search needs)
-    (λ c. (refl, length-replicate {A = ℕ} 262144 65535, length-replicate {A = ℕ} 65536 0, length-replicate {A = ℕ} 65536 0, refl)) (λ c κs. search needs)
-    (λ c κs. search needs) (λ c κs. search needs) (λ c. search needs) (λ c κs. search needs) (λ c. search needs)
+    (λ c. (refl, length-replicate {A = ℕ} 262144 65535, length-replicate {A = ℕ} 65536 0, length-replicate {A = ℕ} 65536 0, refl))
+    (λ c κs. search needs) (λ c κs. search needs) (λ c κs. search needs) (λ c. search needs) (λ c κs. search needs)
     (λ c. search needs) (λ c. search needs) (λ c. search needs) (λ c. search needs) (λ c. search needs)
-    (λ c κs. search needs) (λ c κs. search needs) (λ c. search needs) (λ c. search needs) (λ c. search needs)
-    (λ c. search needs) (λ c. (search needs, search needs, search needs, search needs)) (λ c. search needs)
-    (λ c κs. search needs) (λ c. search needs)
+    (λ c. search needs) (λ c κs. search needs) (λ c κs. search needs) (λ c. search needs) (λ c. search needs)
+    (λ c. search needs) (λ c. search needs) (λ c. (search needs, search needs, search needs, search needs))
+    (λ c. search needs) (λ c κs. search needs) (λ c. search needs)
     (λ c. (search needs, search needs, search needs, search needs, search needs)) (λ c. search needs)
-    (λ c. search needs) (λ c κs. search needs) (λ c. search needs) (λ c. search needs))
+    (λ c κs. search needs) (λ c. search needs) (λ c κs. search needs) (λ c. search needs) (λ c. search needs))
