@@ -1,13 +1,15 @@
 #!/usr/bin/env python3
 """Makes the keys that the program `keyslots` is run on, and their slots by an implementation of its own.
 
-    python3 tests/keys/make.py
+    python3 tests/keys/make.py                     writes crates/keyslots/stdin and stdout
+    python3 tests/keys/make.py --seed 7 --to DIR   the same with other keys, into DIR
 
-writes crates/keyslots/stdin (a key a line, in lowercase hexadecimal, with some lines that are no keys) and
-crates/keyslots/stdout (the slot of each, or `bad`). `rt check keyslots` runs the program on the one and compares with the
-other; so does the gate. Nothing here is taken from the Rattle code: CRC16 is the bitwise one of the specification, and
-the hashed part goes by Python's `find`. The seed is fixed, so that both files come out the same each time.
+The input is a key a line, in lowercase hexadecimal, with some lines that are no keys; the output the slot of each, or `bad`.
+`rt check keyslots` runs the program on the one and compares with the other; so does the gate. Nothing here is taken from the
+Rattle code: CRC16 is the bitwise one of the specification, and the hashed part goes by Python's `find`. The same seed gives
+the same files.
 """
+import argparse
 import random
 from pathlib import Path
 
@@ -38,8 +40,7 @@ def slot(key):
     return crc16(hashed(key)) % 16384
 
 
-def keys():
-    dice = random.Random(20261115)
+def keys(dice):
 
     def text(n):
         return bytes(dice.choice(b"abcdefghijklmnopqrstuvwxyz0123456789:_-") for _ in range(n))
@@ -79,12 +80,16 @@ NO_KEYS = ["zz", "3", "313", "0x31", "AB", "aB", "31 32", " 31", "31 ", "3g", "g
 
 
 def main():
-    lines = [(key.hex(), str(slot(key))) for key in keys()]
+    options = argparse.ArgumentParser()
+    options.add_argument("--seed", type=int, default=20261115)
+    options.add_argument("--to", type=Path, default=CRATE)
+    o = options.parse_args()
+    lines = [(key.hex(), str(slot(key))) for key in keys(random.Random(o.seed))]
     dice = random.Random(7)
     for line in NO_KEYS + ["31" * LONGEST + "3", "7b" * (LONGEST + 20000)]:
         lines.insert(dice.randrange(len(lines)), (line, "bad"))
-    (CRATE / "stdin").write_bytes("".join(line + "\n" for line, _ in lines).encode() + b"3132")
-    (CRATE / "stdout").write_text("".join(answer + "\n" for _, answer in lines))
+    (o.to / "stdin").write_bytes("".join(line + "\n" for line, _ in lines).encode() + b"3132")
+    (o.to / "stdout").write_text("".join(answer + "\n" for _, answer in lines))
     print(f"{len(lines)} lines")
 
 

@@ -1,5 +1,7 @@
--- The number that document 01 gives each answer; the values beside it are those of the case.
+-- What document 01 gives each answer: its number, and the values beside it.
 use Prim.Native.Nat.{ℕ}
+use mathlib.Core.Path.{_≡_}
+use Rattle.tables.specs.declared.Found.{Found}
 use Rattle.answers.specs.declared.Answer.{Answer}
 use Rattle.answers.specs.declared.Answer.the-variants.{
   Done,
@@ -38,38 +40,60 @@ use Rattle.answers.specs.declared.Answer.the-variants.{
   AckRepeated,
 }
 
+-- beside the 0 of a heartbeat: how many slots were newly bound, how many rebound, and the lowest slot, if any, at which the
+-- sender is stale; beside 17 the lowest slot that the vote is refused for
+pub data Values : Type 0 where
+  no-values : Values
+  counts : (bound rebound : ℕ) (stale : Found) → Values
+  at-slot : ℕ → Values
+
+pub record Said : Type 0 where
+  pub number : ℕ
+  pub values : Values
+
+-- a number with no values
+abbrev pub plain : ℕ → Said
+plain k = record { number = k; values = no-values }
+
+abbrev pub said : Answer → Said
+said Done = plain 0
+said (Heard tally) = record { number = 0; values = counts (tally .bound) (tally .rebound) (tally .stale) }
+said WrongLength = plain 1
+said NotAFrame = plain 2
+said UnknownNode = plain 3
+said BeforeClock = plain 4
+said OutOfBounds = plain 5
+said OwnNumber = plain 6
+said Unsound = plain 7
+said FollowsItself = plain 8
+said AtTheTop = plain 9
+said Granted = plain 10
+said NotMaster = plain 11
+said StaleEpoch = plain 12
+said AlreadyVoted = plain 13
+said NoListedMaster = plain 14
+said MasterNotFailed = plain 15
+said VotedLately = plain 16
+said (Outdated s) = record { number = 17; values = at-slot s }
+said MarksFull = plain 20
+said NoSuchSlot = plain 21
+said NotMarked = plain 22
+said WrongSide = plain 23
+said NotReplica = plain 24
+said OwnMasterNotFailed = plain 25
+said OwnMasterEmpty = plain 26
+said ElectionYoung = plain 28
+said Won = plain 30
+said NoElection = plain 31
+said OtherCandidate = plain 32
+said OtherEpoch = plain 33
+said NoVoter = plain 34
+said AckLate = plain 35
+said AckRepeated = plain 36
+
 abbrev pub number : Answer → ℕ
-number Done = 0
-number (Heard tally) = 0
-number WrongLength = 1
-number NotAFrame = 2
-number UnknownNode = 3
-number BeforeClock = 4
-number OutOfBounds = 5
-number OwnNumber = 6
-number Unsound = 7
-number FollowsItself = 8
-number AtTheTop = 9
-number Granted = 10
-number NotMaster = 11
-number StaleEpoch = 12
-number AlreadyVoted = 13
-number NoListedMaster = 14
-number MasterNotFailed = 15
-number VotedLately = 16
-number (Outdated slot) = 17
-number MarksFull = 20
-number NoSuchSlot = 21
-number NotMarked = 22
-number WrongSide = 23
-number NotReplica = 24
-number OwnMasterNotFailed = 25
-number OwnMasterEmpty = 26
-number ElectionYoung = 28
-number Won = 30
-number NoElection = 31
-number OtherCandidate = 32
-number OtherEpoch = 33
-number NoVoter = 34
-number AckLate = 35
-number AckRepeated = 36
+number a = said a .number
+
+-- the number and the values fix the case, so a promise in these words is one about the code's own answer
+abbrev pub SaidSettles : Type 0
+SaidSettles = (a b : Answer) → said a ≡ said b → a ≡ b

@@ -5,9 +5,7 @@ use mathlib.Core.Path.{_≡_}
 use mathlib.Core.List.{List, [], _∷_, _++_, map}
 use lib.ListN.{replicate}
 use Rattle.tables.specs.Sizes.{reportCount, unowned}
-use Rattle.answers.specs.Answers.{number}
-use Rattle.answers.specs.declared.Answer.{Answer}
-use Rattle.answers.specs.declared.Answer.the-variants.{Granted, StaleEpoch, AlreadyVoted, VotedLately, Outdated}
+use Rattle.answers.specs.Answers.{at-slot, Said, plain, said}
 use Rattle.state.specs.Changes.{withConfig, withFlag, withCurrent, withVoted, onRecord}
 use Rattle.state.specs.Outcomes.{Stepped}
 use Rattle.state.specs.declared.Node.{Node}
@@ -52,11 +50,10 @@ lineOf q = encode (requestOf q) claimOfSlot0
 
 -- ---- the table
 
--- a request, the answer with its number, and currentEpoch after it
+-- a request, the answer's number and values, and currentEpoch after it
 pub record VoteRow : Type 0 where
   pub asked : Asked
-  pub answer : Answer
-  pub number : ℕ
+  pub answer : Said
   pub current : ℕ
 
 -- a key; or requests to the voter, one after the other
@@ -67,23 +64,23 @@ pub data Row : Type 0 where
 abbrev pub ask : ℕ → ℕ → ℕ → ℕ → Asked
 ask candidate epoch config time = record { candidate = candidate; epoch = epoch; config = config; time = time }
 
-abbrev pub gives : Asked → Answer → ℕ → ℕ → VoteRow
-gives q a n e = record { asked = q; answer = a; number = n; current = e }
+abbrev pub gives : Asked → Said → ℕ → VoteRow
+gives q a e = record { asked = q; answer = a; current = e }
 
 -- candidate 3 with configEpoch 2 at epoch 4: 12; at epoch 5: 10; the same again: 13; then candidate 4 at epoch 6 after
 -- 1,999 ms: 16, currentEpoch 6; after 2,000 ms: 10
 abbrev pub voteRows : List VoteRow
 voteRows =
-    gives (ask 3 4 2 1000) StaleEpoch 12 5
-    ∷ gives (ask 3 5 2 1000) Granted 10 5
-    ∷ gives (ask 3 5 2 1000) AlreadyVoted 13 5
-    ∷ gives (ask 4 6 2 2999) VotedLately 16 6
-    ∷ gives (ask 4 6 2 3000) Granted 10 6
+    gives (ask 3 4 2 1000) (plain 12) 5
+    ∷ gives (ask 3 5 2 1000) (plain 10) 5
+    ∷ gives (ask 3 5 2 1000) (plain 13) 5
+    ∷ gives (ask 4 6 2 2999) (plain 16) 6
+    ∷ gives (ask 4 6 2 3000) (plain 10) 6
     ∷ []
 
 -- the first epoch 5 request with configEpoch 1 instead: 17, slot 0
 abbrev pub outdatedRows : List VoteRow
-outdatedRows = gives (ask 3 5 1 1000) (Outdated 0) 17 5 ∷ []
+outdatedRows = gives (ask 3 5 1 1000) (record { number = 17; values = at-slot 0 }) 5 ∷ []
 
 abbrev pub rows : List Row
 rows = map key keyRows ++ votes voteRows ∷ votes outdatedRows ∷ []
@@ -91,7 +88,7 @@ rows = map key keyRows ++ votes voteRows ∷ votes outdatedRows ∷ []
 -- ---- the same, by the definitions
 
 abbrev pub voteAnswered : Asked → Stepped → VoteRow
-voteAnswered q s = record { asked = q; answer = s .outcome .answer; number = number (s .outcome .answer); current = s .outcome .node .current }
+voteAnswered q s = record { asked = q; answer = said (s .outcome .answer); current = s .outcome .node .current }
 
 unfoldable pub votesAnswered : Node → List VoteRow → List VoteRow
 votesAnswered n [] = []
