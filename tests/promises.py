@@ -1,5 +1,6 @@
 #!/usr/bin/env python3
-"""Holds docs/PROMISES.md against the repository: what it names is there, and every must-fail edit is named.
+"""Holds docs/PROMISES.md and docs/GLOSSARY.md against the repository: what they name is there, and every must-fail edit is
+named.
 
     python3 tests/promises.py
 
@@ -117,11 +118,12 @@ def look(where, crates, name, column):
         wrong.append(f"{where}: theorem {name} is not stated by a definition of specs/: {sigs[0][:160]}")
 
 
-def main():
-    named, own, columns = {c: set() for c in CRATES}, [], None
-    for number, line in enumerate((ROOT / "docs" / "PROMISES.md").read_text().split("\n"), 1):
-        where = f"PROMISES.md:{number}"
-        if line.startswith("## "):
+def rows(file):
+    """(where, crates of the section, columns, cells) of each row of each table of a page."""
+    own, columns = [], None
+    for number, line in enumerate((ROOT / "docs" / file).read_text().split("\n"), 1):
+        where = f"{file}:{number}"
+        if line.startswith("#"):
             own = [c for c in re.findall(r"`(\w+)`", line) if c in CRATES] or sorted(CRATES)
         if not line.startswith("|"):
             columns = None
@@ -129,14 +131,17 @@ def main():
         cells = [c.strip() for c in line.strip("|").split("|")]
         if columns is None:
             columns = cells
-            continue
-        if set(line) <= set("|- "):
-            continue
-        if len(cells) != len(columns):
+        elif len(cells) != len(columns):
             wrong.append(f"{where}: {len(cells)} cells in a table of {len(columns)} columns")
-            continue
+        elif not set(line) <= set("|- "):
+            yield where, own, columns, cells
+
+
+def main():
+    named = {c: set() for c in CRATES}
+    for where, own, columns, cells in [*rows("PROMISES.md"), *rows("GLOSSARY.md")]:
         for column, cell in zip(columns, cells):
-            if column in ("Definition", "Statement"):
+            if column in ("Definition", "Statement", "Where"):
                 for crates, name in tokens(cell, own):
                     look(where, crates, name, "definition")
             elif column in ("Function", "Theorem", "Function or theorem"):
@@ -152,7 +157,7 @@ def main():
     for c in sorted(CRATES):
         for name in sorted(EDITS[c] - named[c]):
             wrong.append(f"crates/{c}/must-fail/{name}.edit is not named in PROMISES.md")
-    print("\n".join(wrong) or f"PROMISES.md: all names are there, {sum(map(len, EDITS.values()))} edits named")
+    print("\n".join(wrong) or f"PROMISES.md and GLOSSARY.md: all names are there, {sum(map(len, EDITS.values()))} edits named")
     sys.exit(bool(wrong))
 
 

@@ -9,7 +9,6 @@ use lib.Dec.{T, ltb, leb}
 use lib.ListN.{length, getD}
 use lib.Seq.{getD-set-same, getD-set-other}
 use borrow.Author.Tests.{leb-false, lt-ltb, le-ltb}
-use Rattle.tables.specs.Sets.{claimed}
 use Rattle.tables.specs.Sizes.{top, timeEnd}
 use Rattle.tables.proofs.Checks.{never, part, none}
 use Rattle.answers.specs.declared.Answer.the-variants.{Done}
@@ -43,11 +42,6 @@ use Rattle.probes.specs.Probes.{afterProbe, probed}
 use Rattle.probes.proofs.Keeps.{probes-change}
 use Rattle.probes.proofs.Ticks.{tick-each}
 use Rattle.reports.specs.Reports.{stored, reported, failed}
-use Rattle.records.specs.Known.{knownConfigs}
-use Rattle.ownership.specs.Claim.{Claimant, claimant, fateAt, entryAfter, claim}
-use Rattle.ownership.specs.declared.Fate.{Fate}
-use Rattle.ownership.specs.declared.Fate.the-variants.{Bound, Rebound, Stale, Stays}
-use Rattle.ownership.proofs.Owners.{length-kept, entry, unclaimed-stays}
 use Rattle.heartbeats.specs.Heartbeats.{heardOf, withSender, tied, heartbeat}
 use Rattle.heartbeats.proofs.Frame as heartbeats
 use Rattle.votes.proofs.Steps.{request-cases}
@@ -58,6 +52,7 @@ use Rattle.marks.proofs.Kept.{set-marks-keep, clear-marks-keep, set-done, clear
 use Rattle.node.specs.Step.{onKind, turnedAway, takenIn, onFrame}
 use Rattle.promises.specs.Changes.{Bumped, NotBumped, givesWay, RequestChanges, AckChanges, KindChanges, LineChanges, OpeningChanges, MarkChanges}
 use Rattle.promises.proofs.Refused.{letsPass}
+use Rattle.promises.proofs.Claims.{table-after}
 use Rattle.promises.proofs.Sounds.{sender-listed, sender-other}
 
 -- ---- heartbeat
@@ -105,33 +100,6 @@ module _ (n : Node) (slots bitmap : List ℕ) (h : Header) (sender : ℕ) where
         by : (b : Bool) → then Master .current ≡ cond b (m .current + 1) (m .current) → recordAt (then Master) (m .me) ≡ cond b (withConfig (m .current + 1) (recordAt m (m .me))) (recordAt m (m .me)) → (b ≡ true → Bumped m (then Master)) × (b ≡ false → NotBumped m (then Master))
         by true c r = (λ e. record { current = c; config = r }, λ e. never e)
         by false c r = (λ e. never (sym e), λ e. record { current = c; config = r })
-
-  claims-nothing : (role : Role) (f : ℕ) → role ≡ Replica f → hears role .slots ≡ slots
-  claims-nothing role f e = ap (λ (r : Role). hears r .slots) e ∙ heartbeats.replica-claims-nothing m slots bitmap sender (h .config) f
-
-  abbrev c : Claimant
-  c = let heard = withSender sender Master (h .config) m in claimant (knownConfigs (heard .size) (heard .records)) (heard .size) sender (h .config)
-
-  unclaimed : (role : Role) (k : ℕ) → k < length slots → claimed bitmap k ≡ false → getD (hears role .slots) k 0 ≡ getD slots k 0
-  unfolding heartbeat
-  unclaimed Master k l e = unclaimed-stays c bitmap slots k l e
-  unclaimed (Replica f) k l e = refl
-
-  to-sender : (role : Role) (k : ℕ) → k < length slots → (getD (hears role .slots) k 0 ≡ getD slots k 0) ⊎ (getD (hears role .slots) k 0 ≡ sender)
-  unfolding heartbeat
-  to-sender (Replica f) k l = inl refl
-  to-sender Master k l = by (fateAt c bitmap k (getD slots k 0)) (entry c bitmap slots k l)
-    where
-      by : (x : Fate) → getD (claim c bitmap slots .slots) k 0 ≡ entryAfter c x (getD slots k 0) → (getD (claim c bitmap slots .slots) k 0 ≡ getD slots k 0) ⊎ (getD (claim c bitmap slots .slots) k 0 ≡ sender)
-      by Bound e = inr e
-      by Rebound e = inr e
-      by Stale e = inl e
-      by Stays e = inl e
-
-  table-long : (role : Role) → length (hears role .slots) ≡ length slots
-  unfolding heartbeat
-  table-long Master = length-kept c bitmap slots
-  table-long (Replica f) = refl
 
 -- ---- by kind
 
@@ -190,14 +158,12 @@ module _ (n : Node) (slots reports bitmap : List ℕ) (h : Header) where
       let o : n .me < length (n .records) = omega (arith, me-listed n s, all-records n s, few-nodes n s) in
       record {
         rest = beside n slots bitmap h sender role;
+        room = heartbeats.heartbeat-room (arrived (h .time) (h .epoch) n) slots bitmap sender (h .config) role;
         sender-heard = sender-heard n slots bitmap h sender d l o role;
         others = λ k x y. heartbeats.others-kept (arrived (h .time) (h .epoch) n) slots bitmap sender (h .config) role k x y;
         bump = gave-way n slots bitmap h sender d l o role .0;
         no-bump = gave-way n slots bitmap h sender d l o role .1;
-        slots-long = table-long n slots bitmap h sender role;
-        to-sender = to-sender n slots bitmap h sender role;
-        unclaimed = unclaimed n slots bitmap h sender role;
-        replica-claims-nothing = claims-nothing n slots bitmap h sender role;
+        slots-claimed = table-after (arrived (h .time) (h .epoch) n) slots bitmap sender (h .config) role;
         reports-kept = refl;
       }
 

@@ -1,12 +1,10 @@
 -- Demand 1, its second half: what a call that is not turned away changes, by kind. What is not named stays.
 use mathlib.Core.Path.{_≡_}
-use mathlib.Core.Logic.{_⊎_}
 use mathlib.Core.Bool.{Bool, true, false}
 use mathlib.Core.List.{List}
 use Prim.Native.Nat.{ℕ, _+_, _<_}
 use lib.Dec.{T}
-use lib.ListN.{length, getD, set}
-use Rattle.tables.specs.Sets.{claimed}
+use lib.ListN.{length, set}
 use Rattle.tables.specs.Checks.{allOf}
 use Rattle.nodesets.specs.NodeSets.{added}
 use Rattle.nodesets.specs.declared.NodeSet.{NodeSet}
@@ -16,7 +14,6 @@ use Rattle.state.specs.Changes.{withConfig, withPing, withFlag, withRecords, wi
 use Rattle.state.specs.Outcomes.{Stepped}
 use Rattle.state.specs.declared.Node.{Node}
 use Rattle.state.specs.declared.Role.{Role}
-use Rattle.state.specs.declared.Role.the-variants.{Replica}
 use Rattle.state.specs.declared.Moment.the-variants.{Never}
 use Rattle.state.specs.declared.Verdict.{Verdict}
 use Rattle.state.specs.declared.Verdict.the-variants as verdict
@@ -40,6 +37,7 @@ use Rattle.openings.specs.Openings.{opens, opening}
 use Rattle.acks.specs.Acks.{promoted, passed}
 use Rattle.marks.specs.Marks.{ButMarks}
 use Rattle.marks.specs.MarkChanges.{setMark, clearMark, marking, unmarking}
+use Rattle.promises.specs.Claims.{slotsAfter}
 
 -- both tables stay
 pub record TablesKept (slots reports : List ℕ) (s : Stepped) : Type 0 where
@@ -72,19 +70,15 @@ module _ (n : Node) (slots reports : List ℕ) (s : Stepped) (h : Header) where
   abbrev later : Node
   later = withClock (h .time) n
 
-  -- heartbeat: slots, the sender's role and configEpoch, on a bump currentEpoch and the own configEpoch
+  -- heartbeat: the slots that go to the sender, the sender's role and configEpoch, on a bump currentEpoch and the own configEpoch
   pub record HeartbeatChanges (bitmap : List ℕ) (sender : ℕ) (role : Role) : Type 0 where
     pub rest : after ≡ withRecords (after .records) (withCurrent (after .current) later)
+    pub room : length (after .records) ≡ length (n .records)
     pub sender-heard : recordAt after sender ≡ heardOf role (h .config) (recordAt n sender)
     pub others : (k : ℕ) → (k ≡ sender → ⊥) → (k ≡ n .me → ⊥) → recordAt after k ≡ recordAt n k
     pub bump : givesWay arrival sender role (h .config) ≡ true → Bumped arrival after
     pub no-bump : givesWay arrival sender role (h .config) ≡ false → NotBumped arrival after
-    -- the slot table keeps its length; an entry stays or becomes the sender's, one that is not claimed stays, and a replica's
-    -- frame claims nothing
-    pub slots-long : length (s .slots) ≡ length slots
-    pub to-sender : (k : ℕ) → k < length slots → (getD (s .slots) k 0 ≡ getD slots k 0) ⊎ (getD (s .slots) k 0 ≡ sender)
-    pub unclaimed : (k : ℕ) → k < length slots → claimed bitmap k ≡ false → getD (s .slots) k 0 ≡ getD slots k 0
-    pub replica-claims-nothing : (m : ℕ) → role ≡ Replica m → s .slots ≡ slots
+    pub slots-claimed : s .slots ≡ slotsAfter n bitmap sender role (h .config) slots
     pub reports-kept : s .reports ≡ reports
 
   -- the clock moves, and that is all

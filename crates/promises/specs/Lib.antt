@@ -1,4 +1,5 @@
 pub mod Refused
+pub mod Claims
 pub mod Changes
 pub mod Exactly
 pub mod Sounds
