@@ -50,7 +50,7 @@ use Rattle.openings.proofs.Steps.{open-cases}
 use Rattle.acks.proofs.Steps.{ack-cases}
 use Rattle.marks.proofs.Kept.{set-marks-keep, clear-marks-keep, set-done, clear-done}
 use Rattle.node.specs.Step.{onKind, turnedAway, takenIn, onFrame}
-use Rattle.promises.specs.Changes.{Bumped, NotBumped, givesWay, RequestChanges, AckChanges, KindChanges, LineChanges, OpeningChanges, MarkChanges}
+use Rattle.promises.specs.Changes.{Bumped, NotBumped, givesWay, RequestChanges, AckChanges, KindChanges, FrameChanges, LineChanges, OpeningChanges, MarkChanges}
 use Rattle.promises.proofs.Refused.{letsPass}
 use Rattle.promises.proofs.Claims.{table-after}
 use Rattle.promises.proofs.Sounds.{sender-listed, sender-other}
@@ -211,13 +211,13 @@ no-frame : (n : Node) (slots reports : ℕ) → ((a : ℕ) → testFor a (refusa
 unfolding refusals frameRefusals
 no-frame n slots reports p = never (p 2)
 
-pub what-a-line-changes : (n : Node) (slots reports line : List ℕ) → (T (turnsAway (onFrame n slots reports line .outcome .answer)) → ⊥) → LineChanges n slots reports (onFrame n slots reports line) (bitmapOf line) (frameOf line)
+pub what-a-line-changes : (n : Node) (slots reports line : List ℕ) → LineChanges n slots reports line
 unfolding onFrame
 what-a-line-changes n slots reports line =
-    past (λ (x : Stepped). (T (turnsAway (x .outcome .answer)) → ⊥) → LineChanges n slots reports x (bitmapOf line) (frameOf line)) turnsAway (turnedAway n slots reports) (refusals n (length slots) (length reports) (frameOf line)) (takenIn n slots reports (bitmapOf line) (frameOf line))
+    past (λ (x : Stepped). (T (turnsAway (x .outcome .answer)) → ⊥) → FrameChanges n slots reports x (bitmapOf line) (frameOf line)) turnsAway (turnedAway n slots reports) (refusals n (length slots) (length reports) (frameOf line)) (takenIn n slots reports (bitmapOf line) (frameOf line))
     (all-turn-away n (length slots) (length reports) (frameOf line)) (λ a q d. absurd (d (rw q tt))) (λ p d. go (frameOf line) refl p)
   where
-    go : (d : Decoded) → frameOf line ≡ d → ((a : ℕ) → testFor a (refusals n (length slots) (length reports) d) ≡ false) → LineChanges n slots reports (takenIn n slots reports (bitmapOf line) d) (bitmapOf line) d
+    go : (d : Decoded) → frameOf line ≡ d → ((a : ℕ) → testFor a (refusals n (length slots) (length reports) d) ≡ false) → FrameChanges n slots reports (takenIn n slots reports (bitmapOf line) d) (bitmapOf line) d
     go NotAFrame e p = absurd (no-frame n (length slots) (length reports) p)
     go (Good f) e p = kind-changes n slots reports (bitmapOf line) (f .header) (f .kind) (admitted n (length slots) (length reports) f p) (fits line f e .1)
 

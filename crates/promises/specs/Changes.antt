@@ -21,6 +21,7 @@ use Rattle.state.specs.declared.Election.the-variants.{Open}
 use Rattle.state.specs.declared.Echo.{Echo}
 use Rattle.state.specs.declared.Echo.the-variants.{Ping, Pong}
 use Rattle.state.specs.declared.Move.{Move}
+use Rattle.frames.specs.Frames.{frameOf, bitmapOf}
 use Rattle.frames.specs.declared.Header.{Header}
 use Rattle.frames.specs.declared.Kind.{Kind}
 use Rattle.frames.specs.declared.Kind.the-variants.{Heartbeat, Report, Fail, Request, Ack, Probe, Tick}
@@ -37,6 +38,7 @@ use Rattle.openings.specs.Openings.{opens, opening}
 use Rattle.acks.specs.Acks.{promoted, passed}
 use Rattle.marks.specs.Marks.{ButMarks}
 use Rattle.marks.specs.MarkChanges.{setMark, clearMark, marking, unmarking}
+use Rattle.node.specs.Step.{onFrame}
 use Rattle.promises.specs.Claims.{slotsAfter}
 
 -- both tables stay
@@ -150,10 +152,16 @@ module _ (n : Node) (slots reports : List ℕ) (s : Stepped) (h : Header) where
   KindChanges bitmap (Probe subject echo) = ProbeChanges subject echo
   KindChanges bitmap Tick = TickChanges
 
--- a line by its kind; one that is no frame is turned away
-abbrev pub LineChanges : Node → List ℕ → List ℕ → Stepped → List ℕ → Decoded → Type 0
-LineChanges n slots reports s bitmap NotAFrame = ⊥
-LineChanges n slots reports s bitmap (Good f) = KindChanges n slots reports s (f .header) bitmap (f .kind)
+-- one that is no frame is turned away
+abbrev pub FrameChanges : Node → List ℕ → List ℕ → Stepped → List ℕ → Decoded → Type 0
+FrameChanges n slots reports s bitmap NotAFrame = ⊥
+FrameChanges n slots reports s bitmap (Good f) = KindChanges n slots reports s (f .header) bitmap (f .kind)
+
+-- a line that is not turned away, by its kind
+abbrev pub LineChanges : Node → List ℕ → List ℕ → List ℕ → Type 0
+LineChanges n slots reports line =
+    let s = onFrame n slots reports line in
+    (T (turnsAway (s .outcome .answer)) → ⊥) → FrameChanges n slots reports s (bitmapOf line) (frameOf line)
 
 -- opening: 0 opens, any other answer past 1 to 8 (24, 25, 26, 28, 9) moves the clock only
 pub record OpeningChanges (n : Node) (slots : List ℕ) (time : ℕ) : Type 0 where
