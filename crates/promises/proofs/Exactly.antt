@@ -1,5 +1,5 @@
 -- A line is answered 10 exactly when it is a request whose conditions hold, and a slot passes exactly when the frame beats its owner.
-use mathlib.Core.Path.{_≡_, refl, sym, ap, _∙_}
+use mathlib.Core.Path.{_≡_, refl, sym, ap, subst, _∙_}
 use mathlib.Core.Bool.{Bool, true, false}
 use mathlib.Core.List.{List, [], _∷_}
 use Prim.Native.Nat.{ℕ, _≤_, _<_}
@@ -24,10 +24,11 @@ use Rattle.frames.specs.Frames.{frameOf, bitmapOf}
 use Rattle.frames.specs.declared.Header.{Header}
 use Rattle.frames.specs.declared.Kind.{Kind}
 use Rattle.frames.specs.declared.Kind.the-variants.{Heartbeat, Report, Fail, Request, Ack, Probe, Tick}
+use Rattle.frames.specs.declared.Frame.{Frame}
 use Rattle.frames.specs.declared.Decoded.{Decoded}
 use Rattle.frames.specs.declared.Decoded.the-variants.{NotAFrame, Good}
 use Rattle.refusals.specs.Refusals.{refusals, turnsAway}
-use Rattle.refusals.proofs.Admitted.{admitted, passes, all-turn-away}
+use Rattle.refusals.proofs.Admitted.{Admitted, admitted, passes, all-turn-away}
 use Rattle.records.specs.Known.{knownConfigs}
 use Rattle.ownership.specs.Claim.{claimant}
 use Rattle.ownership.proofs.Owners.{unowned-goes, unclaimed-stays}
@@ -38,7 +39,8 @@ use Rattle.votes.proofs.Steps.{request-cases}
 use Rattle.votes.proofs.Exactly.{granted-exactly}
 use Rattle.acks.specs.Acks.{acked}
 use Rattle.acks.proofs.Steps.{ack-cases}
-use Rattle.node.specs.Step.{onKind, turnedAway, takenIn, onFrame}
+use Rattle.node.specs.Step.{slottedStep, onKind, turnedAway, takenIn, onFrame}
+use Rattle.promises.proofs.Sounds.{sender-listed}
 use Rattle.promises.specs.Exactly.{answerTo, Reads, GrantableLine, GrantedExactly, SlotPassesExactly, UnownedGoesExactly}
 
 -- an answer that turns a line away is one of 1 to 8
@@ -115,40 +117,48 @@ module _ (n : Node) (slots reports line : List ℕ) where
 
 -- ---- a slot
 
--- a master's heartbeat that is answered 0 was not turned away, and the slot table was whole
-module _ (n : Node) (slots reports bitmap : List ℕ) (h : Header) (sender : ℕ) where
-  abbrev decoded : Decoded
-  decoded = Good (record { header = h; kind = Heartbeat sender Master })
+-- a heartbeat that is answered 0 was not turned away: the slot table is whole, the sender listed, and it was done
+module _ (n : Node) (slots reports bitmap : List ℕ) (h : Header) (sender : ℕ) (role : Role) where
+  abbrev frame : Frame
+  frame = record { header = h; kind = Heartbeat sender role }
 
   abbrev stepped : Decoded → Stepped
   stepped d = checked (turnedAway n slots reports) (refusals n (length slots) (length reports) d) (takenIn n slots reports bitmap d)
 
-  abbrev Taken : Stepped → Type 0
-  Taken x = (length slots ≡ slotCount) × (x .slots ≡ heartbeat (arrived (h .time) (h .epoch) n) slots bitmap sender Master (h .config) .slots)
+  pub record Taken (x : Stepped) : Type 0 where
+    pub whole : length slots ≡ slotCount
+    pub listed : sender < n .size
+    pub step : x ≡ slottedStep reports (heartbeat (arrived (h .time) (h .epoch) n) slots bitmap sender role (h .config))
 
-  zero-taken : number (stepped decoded .outcome .answer) ≡ 0 → Taken (stepped decoded)
+  admitted-taken : Admitted n (length slots) (length reports) frame → Taken (takenIn n slots reports bitmap (Good frame))
   unfolding onKind
+  admitted-taken a = record {
+    whole = eqb-true (length slots) slotCount (part 0 (eqb (length slots) slotCount ∷ eqb (length reports) reportCount ∷ []) (a .lengths));
+    listed = sender-listed (n .size) sender role (a .all-listed);
+    step = refl;
+  }
+
+  zero-taken : number (stepped (Good frame) .outcome .answer) ≡ 0 → Taken (stepped (Good frame))
   zero-taken =
-      past (λ (x : Stepped). number (x .outcome .answer) ≡ 0 → Taken x) turnsAway (turnedAway n slots reports) (refusals n (length slots) (length reports) decoded) (takenIn n slots reports bitmap decoded)
-      (all-turn-away n (length slots) (length reports) decoded) (λ a q e. absurd (omega (arith, e, from-one a q)))
-      (λ p e. (eqb-true (length slots) slotCount (part 0 (eqb (length slots) slotCount ∷ eqb (length reports) reportCount ∷ []) (admitted n (length slots) (length reports) (record { header = h; kind = Heartbeat sender Master }) p .lengths)), refl))
+      past (λ (x : Stepped). number (x .outcome .answer) ≡ 0 → Taken x) turnsAway (turnedAway n slots reports) (refusals n (length slots) (length reports) (Good frame)) (takenIn n slots reports bitmap (Good frame))
+      (all-turn-away n (length slots) (length reports) (Good frame)) (λ a q e. absurd (omega (arith, e, from-one a q)))
+      (λ p e. admitted-taken (admitted n (length slots) (length reports) frame p))
 
 -- the same of the line
-line-taken : (n : Node) (slots reports line : List ℕ) (h : Header) (sender : ℕ) → Reads n slots reports line h (Heartbeat sender Master) → answerTo n slots reports line ≡ 0
-    → Taken n slots reports (bitmapOf line) h sender (onFrame n slots reports line)
+line-taken : (n : Node) (slots reports line : List ℕ) (h : Header) (sender : ℕ) (role : Role) → Reads n slots reports line h (Heartbeat sender role) → answerTo n slots reports line ≡ 0
+    → Taken n slots reports (bitmapOf line) h sender role (onFrame n slots reports line)
 unfolding onFrame
-line-taken n slots reports line h sender q a =
-    let on : onFrame n slots reports line ≡ stepped n slots reports (bitmapOf line) h sender (decoded n slots reports (bitmapOf line) h sender) = ap (stepped n slots reports (bitmapOf line) h sender) q in
-    let z = zero-taken n slots reports (bitmapOf line) h sender (ap (λ (x : Stepped). number (x .outcome .answer)) (sym on) ∙ a) in
-    (z .0, ap (λ (x : Stepped). x .slots) on ∙ z .1)
+line-taken n slots reports line h sender role q a =
+    let on : onFrame n slots reports line ≡ stepped n slots reports (bitmapOf line) h sender role (Good (frame n slots reports (bitmapOf line) h sender role)) = ap (stepped n slots reports (bitmapOf line) h sender role) q in
+    subst (Taken n slots reports (bitmapOf line) h sender role) (sym on) (zero-taken n slots reports (bitmapOf line) h sender role (ap (λ (x : Stepped). number (x .outcome .answer)) (sym on) ∙ a))
 
 module _ (n : Node) (slots reports line : List ℕ) where
   pub slot-passes-exactly-on-lines : SlotPassesExactly n slots reports line
   unfolding withClock withCurrent
   slot-passes-exactly-on-lines h sender q a s l o d =
-      let z = line-taken n slots reports line h sender q a in
-      let g = slot-passes-exactly-when (arrived (h .time) (h .epoch) n) slots (bitmapOf line) sender (h .config) s (omega (arith, z .0, l)) o d in
-      let e = ap (λ (x : List ℕ). getD x s 0) (z .1) in
+      let z = line-taken n slots reports line h sender Master q a in
+      let g = slot-passes-exactly-when (arrived (h .time) (h .epoch) n) slots (bitmapOf line) sender (h .config) s (omega (arith, z .whole, l)) o d in
+      let e = ap (λ (x : Stepped). getD (x .slots) s 0) (z .step) in
       record {
         if = λ b. e ∙ g .if (b .claims, b .above);
         only-if = λ b. let r = g .only-if (sym e ∙ b) in record { claims = r .0; above = r .1 };
@@ -158,9 +168,9 @@ module _ (n : Node) (slots reports line : List ℕ) where
   pub unowned-goes-exactly-on-lines : UnownedGoesExactly n slots reports line
   unfolding heartbeat withSender withRecords withClock withCurrent
   unowned-goes-exactly-on-lines h sender q a s l o =
-      let z = line-taken n slots reports line h sender q a in
+      let z = line-taken n slots reports line h sender Master q a in
       let m = withSender sender Master (h .config) (arrived (h .time) (h .epoch) n) in
       let c = claimant (knownConfigs (m .size) (m .records)) (m .size) sender (h .config) in
-      let w : s < length slots = omega (arith, z .0, l) in
-      let e = ap (λ (x : List ℕ). getD x s 0) (z .1) in
+      let w : s < length slots = omega (arith, z .whole, l) in
+      let e = ap (λ (x : Stepped). getD (x .slots) s 0) (z .step) in
       record { if = λ b. e ∙ unowned-goes c (bitmapOf line) slots s w o b; otherwise = λ b. e ∙ unclaimed-stays c (bitmapOf line) slots s w b }
