@@ -9,7 +9,7 @@ use lib.ListN.{getD, set}
 use lib.Seq.{set-getD, getD-set-other}
 use borrow.Author.Tests.{ltb-true}
 use Rattle.tables.specs.Sizes.{nodeRoom}
-use Rattle.tables.proofs.Sets.{Majority}
+use Rattle.tables.specs.Majorities.{Majority}
 use Rattle.nodesets.specs.NodeSets.{has, added, count, majority}
 use Rattle.nodesets.specs.declared.NodeSet.{NodeSet}
 use Rattle.nodesets.proofs.Members.{in-room, in-added, added-fits, most-counted}

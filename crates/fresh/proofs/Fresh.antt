@@ -15,7 +15,7 @@ use Rattle.state.specs.declared.NodeId.{NodeId}
 use Rattle.state.specs.declared.Role.{Role}
 use Rattle.state.specs.declared.Role.the-variants.{Master}
 use Rattle.soundness.specs.Sound.{sound, arraysWhole, boundsKept, idsAscend, followSound, recordSound, recordSoundAt, recordsSound, electionSound, marksAscend, marksSound, ownClear}
-use Rattle.fresh.specs.Roster.{goodRoster, sizesGood, rolesGood}
+use Rattle.fresh.specs.Roster.{goodRoster, sizesGood, rolesGood, FreshSound}
 
 plain : (b : Bool) → cond b true false ≡ b
 plain true = refl
@@ -45,6 +45,7 @@ module _ (ids : List NodeId) (roles : List Role) (size me timeout : ℕ) where
   unfolding ownClear
   clear = ap ownClear (known me)
 
-  pub fresh-sound : length ids ≡ nodeRoom → length roles ≡ nodeRoom → sound (freshNode ids roles size me timeout) ≡ goodRoster ids roles size me timeout
-  unfolding sound goodRoster freshNode idsAscend electionSound marksAscend marksSound every
-  fresh-sound i r = rw (arrays i r, sizes, follows, clear) (rw (plain _))
+pub fresh-sound : (ids : List NodeId) (roles : List Role) (size me timeout : ℕ) → FreshSound ids roles size me timeout
+unfolding sound goodRoster freshNode idsAscend electionSound marksAscend marksSound every
+fresh-sound ids roles size me timeout i r =
+    rw (arrays ids roles size me timeout i r, sizes ids roles size me timeout, follows ids roles size me timeout, clear ids roles size me timeout) (rw (plain _))

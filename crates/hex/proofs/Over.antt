@@ -1,12 +1,11 @@
 -- A text written over a buffer: piece by piece, and what stays.
-use mathlib.Core.Path.{_≡_, refl, sym, ap, _∙_}
+use mathlib.Core.Path.{_≡_, refl, sym, ap}
 use mathlib.Core.List.{List, [], _∷_, _++_}
 use Prim.Native.Nat.{ℕ, zero, suc, _+_, _*_, _/_, _%_, _≤_}
 use native.Mathlib.Nat.{zero-add, suc-add}
-use native.Mathlib.Numerals.{add-one}
 use native.Mathlib.Omega.{arith}
-use lib.ListN.{length, take, drop, set}
-use Rattle.hex.specs.Hex.{hex, bytesOf, over}
+use lib.ListN.{length, set}
+use Rattle.hex.specs.Hex.{hex, bytesOf, over, OverFits}
 use Rattle.hex.proofs.Writing.{length-hex, length-bytes-of}
 
 pub over-nothing : (out : List ℕ) (i : ℕ) → over out i [] ≡ out
@@ -43,8 +42,7 @@ length-over (b ∷ bs) zero [] = refl
 length-over (b ∷ bs) zero (c ∷ cs) = ap suc (length-over bs zero cs)
 length-over (b ∷ bs) (suc i) text = ap suc (length-over bs i text)
 
--- where there is room, the buffer is what stood before the text, the text, and what stood behind it
-pub over-fits : (out : List ℕ) (i : ℕ) (text : List ℕ) → i + length text ≤ length out → over out i text ≡ take i out ++ (text ++ drop (i + length text) out)
+pub over-fits : (out : List ℕ) (i : ℕ) (text : List ℕ) → OverFits out i text
 unfolding over
 over-fits [] zero [] h = refl
 over-fits [] zero (c ∷ cs) h = absurd (omega arith)

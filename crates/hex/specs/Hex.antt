@@ -1,10 +1,10 @@
 -- Lowercase hexadecimal: digits, and the bytes and numbers of a line of them, read and written. Past a line's end its
 -- characters read as 0.
 use mathlib.Core.Path.{_≡_}
-use Prim.Native.Nat.{ℕ, zero, suc, _+_, _*_, _-_, _/_, _%_, _<_}
+use Prim.Native.Nat.{ℕ, zero, suc, _+_, _*_, _-_, _/_, _%_, _≤_, _<_}
 use mathlib.Core.Bool.{Bool, true, cond, _&&_, _||_}
 use mathlib.Core.List.{List, [], _∷_, _++_}
-use lib.ListN.{getD}
+use lib.ListN.{length, take, drop, getD}
 use lib.Dec.{ltb, leb}
 
 -- ---- read
@@ -66,3 +66,7 @@ over [] i text = []
 over (b ∷ bs) zero [] = b ∷ bs
 over (b ∷ bs) zero (c ∷ cs) = c ∷ over bs zero cs
 over (b ∷ bs) (suc i) text = b ∷ over bs i text
+
+-- where there is room: what stood before the text, the text, and what stood behind it
+abbrev pub OverFits : List ℕ → ℕ → List ℕ → Type 0
+OverFits out i text = i + length text ≤ length out → over out i text ≡ take i out ++ (text ++ drop (i + length text) out)

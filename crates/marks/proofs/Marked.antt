@@ -1,4 +1,4 @@
--- What is found after a mark was set or cleared: that mark, or none, at its slot; at every other slot what was there.
+-- What setting and clearing leave: the mark, or none, is found at its slot, at every other slot what was there, and the rest is kept.
 use mathlib.Core.Path.{_≡_, refl, ap, _∙_}
 use mathlib.Core.List.{List}
 use Prim.Native.Nat.{ℕ, _<_}
@@ -17,8 +17,9 @@ use Rattle.state.specs.declared.Outcome.{Outcome}
 use Rattle.marks.specs.declared.Marking.the-variants.{Unmarked, Moving}
 use Rattle.marks.specs.Marks.{marksOf, markingOf, markingAt, remarked, others, insert}
 use Rattle.marks.specs.MarkChanges.{setMark, setChecks, marking, clearMark, clearChecks, unmarking}
+use Rattle.marks.specs.Marked.{Setting, Clearing}
 use Rattle.marks.proofs.Lists.{others-free, others-fewer, taken-out, left-in, put-in, passed-by}
-use Rattle.marks.proofs.Kept.{any, isRefusal, not-done, set-done, clear-done}
+use Rattle.marks.proofs.Kept.{any, isRefusal, not-done, set-done, set-refused, set-marks-keep, set-sound, clear-done, clear-refused, clear-marks-keep, clear-sound}
 
 -- the marks of a node whose marks were listed anew
 anew : (n : Node) (ms : List Mark) → marksOf (remarked n ms) ≡ ms
@@ -31,12 +32,12 @@ module _ (n : Node) (s : ℕ) where
 
   -- ---- setting
 
-  pub set-found : (slots : List ℕ) (move : Move) → setMark n slots s move .answer ≡ Done → markingAt (setMark n slots s move .node) s ≡ Moving move
+  set-found : (slots : List ℕ) (move : Move) → setMark n slots s move .answer ≡ Done → markingAt (setMark n slots s move .node) s ≡ Moving move
   set-found slots move e =
       let m : Mark = record { slot = s; movement = move } in let r = others s (marksOf n) in
       ap (λ (o : Outcome). markingAt (o .node) s) (set-done n slots s move e) ∙ ap (markingOf s) (anew n (insert m r)) ∙ put-in m r (others-free s (marksOf n))
 
-  pub set-elsewhere : (slots : List ℕ) (move : Move) (t : ℕ) → (t ≡ s → ⊥) → markingAt (setMark n slots s move .node) t ≡ markingAt n t
+  set-elsewhere : (slots : List ℕ) (move : Move) (t : ℕ) → (t ≡ s → ⊥) → markingAt (setMark n slots s move .node) t ≡ markingAt n t
   unfolding setMark
   set-elsewhere slots move t d =
       let m : Mark = record { slot = s; movement = move } in let r = others s (marksOf n) in
@@ -45,12 +46,12 @@ module _ (n : Node) (s : ℕ) where
 
   -- ---- clearing
 
-  pub clear-found : clearMark n s .answer ≡ Done → markingAt (clearMark n s .node) s ≡ Unmarked
+  clear-found : clearMark n s .answer ≡ Done → markingAt (clearMark n s .node) s ≡ Unmarked
   clear-found e =
       let r = others s (marksOf n) in
       ap (λ (o : Outcome). markingAt (o .node) s) (clear-done n s e) ∙ ap (markingOf s) (anew n r) ∙ taken-out s r (others-free s (marksOf n))
 
-  pub clear-elsewhere : (t : ℕ) → (t ≡ s → ⊥) → markingAt (clearMark n s .node) t ≡ markingAt n t
+  clear-elsewhere : (t : ℕ) → (t ≡ s → ⊥) → markingAt (clearMark n s .node) t ≡ markingAt n t
   unfolding clearMark
   clear-elsewhere t d =
       let r = others s (marksOf n) in
@@ -61,8 +62,33 @@ module _ (n : Node) (s : ℕ) where
   abbrev Fewer : Outcome → Type 0
   Fewer o = o .answer ≡ Done → o .node .marked < n .marked
 
-  pub clear-makes-room : clearMark n s .answer ≡ Done → clearMark n s .node .marked < n .marked
+  clear-makes-room : clearMark n s .answer ≡ Done → clearMark n s .node .marked < n .marked
   unfolding clearMark withMarks
   clear-makes-room =
       past Fewer isRefusal (answered n) (clearChecks n s) (answered (unmarking s n) Done) refl not-done
       (λ f e. lt-of-lt-of-le (others-fewer s (marksOf n) (f 22)) (simp length-take (omega arith)))
+
+-- ---- the statements
+
+pub setting : (n : Node) (slots : List ℕ) (slot : ℕ) (move : Move) → Setting n slots slot move
+setting n slots slot move = record {
+  found = set-found n slot slots move;
+  keeps = record {
+    refused = set-refused n slots slot move;
+    rest = set-marks-keep n slots slot move;
+    elsewhere = set-elsewhere n slot slots move;
+    stays-sound = λ h. set-sound n h slots slot move;
+  };
+}
+
+pub clearing : (n : Node) (slot : ℕ) → Clearing n slot
+clearing n slot = record {
+  gone = clear-found n slot;
+  room = clear-makes-room n slot;
+  keeps = record {
+    refused = clear-refused n slot;
+    rest = clear-marks-keep n slot;
+    elsewhere = clear-elsewhere n slot;
+    stays-sound = λ h. clear-sound n h slot;
+  };
+}

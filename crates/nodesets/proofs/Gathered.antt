@@ -2,23 +2,21 @@
 use mathlib.Core.Path.{_≡_, refl, sym, ap, ap₂, _∙_}
 use mathlib.Core.Bool.{Bool, true, false, _||_, cond, or-false}
 use mathlib.Core.List.{List, [], _∷_}
-use Prim.Native.Nat.{ℕ, _+_, _*_, _≤_, _<_}
-use native.Mathlib.Nat.{zero-add}
+use Prim.Native.Nat.{ℕ, _+_, _≤_, _<_}
 use native.Mathlib.Decide.{decLt, ℕ-discrete}
 use native.Mathlib.Omega.{arith}
 use lib.Bits.{and-comm}
 use lib.Dec.{eqb, ltb}
-use lib.ListN.{length, length-set}
 use lib.Pow.{pow-pos}
 use borrow.Author.Tests.{lt-ltb, le-ltb, eq-eqb, ne-eqb}
 use Rattle.tables.specs.Sizes.{nodeRoom}
 use Rattle.tables.specs.Sets as sets
 use Rattle.tables.proofs.Checks.{never}
-use Rattle.tables.proofs.Sets.{AllFit}
 use Rattle.tables.proofs.Words.{within-parts, members-within}
 use Rattle.nodesets.specs.NodeSets.{words, setOf, none, has, added, gathered}
+use Rattle.nodesets.specs.Members.{Fits}
 use Rattle.nodesets.specs.declared.NodeSet.{NodeSet}
-use Rattle.nodesets.proofs.Members.{Fits, none-in, in-added, added-fits, in-gathered, gathered-fits}
+use Rattle.nodesets.proofs.Members.{none-in, in-added, added-fits, in-gathered, gathered-fits}
 
 -- ---- sets with the same members are the same
 

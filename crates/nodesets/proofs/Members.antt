@@ -3,25 +3,22 @@ use mathlib.Core.Path.{_≡_, refl, sym, ap, subst, _∙_}
 use mathlib.Core.Logic.{_⊎_, inl, inr}
 use mathlib.Core.Bool.{Bool, true, false, _||_, cond}
 use mathlib.Core.List.{List, [], _∷_}
-use Prim.Native.Nat.{ℕ, zero, suc, _*_, _/_, _%_, _<_}
+use Prim.Native.Nat.{ℕ, zero, suc, _/_, _%_, _<_}
 use native.Mathlib.Nat.{zero-add}
 use native.Mathlib.Omega.{arith}
 use lib.Dec.{eqb, ltb}
-use lib.ListN.{length, getD, set, length-set}
+use lib.ListN.{length, getD, length-set}
 use lib.Pow.{pow-pos}
 use borrow.Author.Tests.{eqb-true}
 use Rattle.tables.specs.Sizes.{nodeRoom}
-use Rattle.tables.specs.Below as below-bound
 use Rattle.tables.specs.Sets as sets
+use Rattle.tables.specs.Majorities.{Within, Majority}
 use Rattle.tables.proofs.Checks.{never}
-use Rattle.tables.proofs.Sets.{AllFit, Within, Meet, Majority, bit-zero, has-add, has-words, words-fit, count-size, majority-counts, majorities-meet}
+use Rattle.tables.proofs.Sets.{bit-zero, has-add, has-words, words-fit, count-size, majority-counts}
 use Rattle.tables.proofs.Words.{within-members, members-within, below-members, members-below, below-fits, within-fits, add-fits, member-bit}
-use Rattle.nodesets.specs.NodeSets.{wordCount, words, setOf, none, has, added, count, majority, within, below, gathered}
+use Rattle.nodesets.specs.NodeSets.{wordCount, words, setOf, none, has, added, majority, within, below, gathered}
+use Rattle.nodesets.specs.Members.{Fits, Members, Parts, Gathers}
 use Rattle.nodesets.specs.declared.NodeSet.{NodeSet}
-
--- every word fits 64 bits, as every value of the program does
-abbrev pub Fits : NodeSet → Type 0
-Fits s = AllFit (words s)
 
 -- ---- the words of a set
 
@@ -53,16 +50,11 @@ in-room s v e = member-bit (s .word) v e .0
 pub in-added : (s : NodeSet) (v k : ℕ) → v < nodeRoom → has (added s v) k ≡ (has s k || eqb k v)
 in-added s v k h = ap (λ (ws : List ℕ). sets.has ws k) (words-added s v) ∙ has-add (words s) v k (omega arith)
 
--- the numbers below the room that pass
-pub in-gathered : (p : ℕ → Bool) (k : ℕ) → has (gathered p) k ≡ cond (ltb k nodeRoom) (p k) false
+pub in-gathered : (p : ℕ → Bool) → Gathers p
 in-gathered p k = ap (λ (ws : List ℕ). sets.has ws k) (words-gathered p) ∙ has-words p 0 wordCount k ∙ rw (zero-add k)
 
 pub gathered-fits : (p : ℕ → Bool) → Fits (gathered p)
-gathered-fits p = subst AllFit (sym (words-gathered p)) (words-fit p 0 wordCount)
-
--- the count is the number of members
-pub count-members : (s : NodeSet) → Fits s → below-bound.count (has s) nodeRoom ≡ count s
-count-members s f = count-size (words s) f
+gathered-fits p = subst sets.AllFit (sym (words-gathered p)) (words-fit p 0 wordCount)
 
 module _ (part whole : NodeSet) where
   pub part-in : within part whole ≡ true → Within (has part) (has whole)
@@ -97,7 +89,7 @@ pub part-fits : (part whole : NodeSet) → within part whole ≡ true → Fits w
 part-fits part whole e f = within-fits (words part) (words whole) e f
 
 pub added-fits : (s : NodeSet) (v : ℕ) → Fits s → Fits (added s v)
-added-fits s v f = subst AllFit (sym (words-added s v)) (add-fits (words s) v f)
+added-fits s v f = subst sets.AllFit (sym (words-added s v)) (add-fits (words s) v f)
 
 either : (b t : Bool) → (b || t) ≡ true → (b ≡ true) ⊎ (t ≡ true)
 either true t e = inl refl
@@ -111,8 +103,22 @@ within-added part whole v f e h =
     by k (inl i) = part-in part whole e k i
     by k (inr q) = ap (has whole) (eqb-true k v q) ∙ h
 
--- ---- majorities
+-- ---- the statements
 
--- by counts of members
+pub members : (s : NodeSet) → Members s
+members s = record {
+  in-room = in-room s;
+  one-more = in-added s;
+  counted = λ f. sym (count-size (words s) f);
+  each-below = λ n f. (below-in s n, in-below s n f);
+}
+
+pub parts : (part whole : NodeSet) → Parts part whole
+parts part whole = record {
+  each-within = λ f. (part-in part whole, in-part part whole f);
+  most = λ f g. majority-counts (words whole) (words part) g f refl;
+}
+
+-- a majority, by its members
 pub most-counted : (whole part : NodeSet) → Fits whole → Fits part → majority whole part ≡ true → Majority nodeRoom (has part) (has whole)
-most-counted whole part f g e = majority-counts (words whole) (words part) f g refl e
+most-counted whole part f g = parts part whole .most g f .0

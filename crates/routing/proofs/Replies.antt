@@ -27,7 +27,7 @@ use Rattle.marks.specs.declared.Marking.the-variants.{Unmarked, Moving}
 use Rattle.routing.specs.declared.Redirect.{Redirect}
 use Rattle.routing.specs.declared.Redirect.the-variants.{WrongLength, Unsound, Down, Serve, Ask, Moved}
 use Rattle.marks.specs.Marks.{marksOf, markingAt, ownerAt, isOwn}
-use Rattle.routing.specs.Replies.{Reply, refused, down, serve, ask, moved, reply, isEntry, atHome, elsewhere, redirected, routed, isTaken, Exactly, MovedNames, AskNames}
+use Rattle.routing.specs.Replies.{Reply, refused, down, serve, ask, moved, reply, isEntry, atHome, elsewhere, redirected, routed, isTaken, Exactly, MovedNames, AskNames, Redirections, ReplySettles}
 use Rattle.marks.proofs.Lists.{found-holds}
 use Rattle.marks.proofs.Kept.{any, all-sound}
 
@@ -48,7 +48,7 @@ case-of Serve = refl
 case-of (Ask s p) = refl
 case-of (Moved s o) = refl
 
-pub reply-settles : (a b : Redirect) → reply a ≡ reply b → a ≡ b
+pub reply-settles : (a b : Redirect) → ReplySettles a b
 reply-settles a b e = sym (case-of a) ∙ ap case e ∙ case-of b
 
 -- ---- which is given exactly when
@@ -83,7 +83,7 @@ by-cases Passed true false p a (Moving (Migrating q)) s o = record { refused = r
 by-cases Passed true false p true (Moving (Importing q)) s o = record { refused = refl; down = refl; ask = refl; moved = refl; serve = refl }
 by-cases Passed true false p false (Moving (Importing q)) s o = record { refused = refl; down = refl; ask = refl; moved = refl; serve = refl }
 
-pub exactly : (n : Node) (slots key : List ℕ) (present asking : Bool)
+exactly : (n : Node) (slots key : List ℕ) (present asking : Bool)
     → Exactly (isTaken n slots) (listed n (ownerAt slots (keySlot key))) (isOwn n slots (keySlot key)) present asking (markingAt n (keySlot key)) (routed n slots key present asking)
 unfolding routed
 exactly n slots key p a =
@@ -150,8 +150,9 @@ module _ (n : Node) (slots key : List ℕ) where
       by h true e true g = homes h (eqb-true owner (n .me) (sym g)) p (markingAt n s) refl
       by h true e false g = aways (ltb-true owner (n .size) (sym e)) (eqb-false owner (n .me) (sym g)) a (markingAt n s)
 
-  pub moved-names : (present asking : Bool) (t o : ℕ) → routed n slots key present asking ≡ moved t o → MovedNames n slots key t o
-  moved-names p a t o e = subst Names e (names p a)
-
-  pub ask-names : (present asking : Bool) (t peer : ℕ) → routed n slots key present asking ≡ ask t peer → AskNames n slots key t peer
-  ask-names p a t peer e = subst Names e (names p a)
+pub redirections : (n : Node) (slots key : List ℕ) (present asking : Bool) → Redirections n slots key present asking
+redirections n slots key p a = record {
+  exactly = exactly n slots key p a;
+  moved-names = λ t o e. subst (Names n slots key) e (names n slots key p a);
+  ask-names = λ t peer e. subst (Names n slots key) e (names n slots key p a);
+}

@@ -77,7 +77,7 @@ unfoldable pub routed : Node → List ℕ → List ℕ → Bool → Bool → Rep
 routed n slots key present asking =
     checked (λ a. refused (number a)) (entryChecks (eqb (length slots) slotCount) n) (redirected n slots (keySlot key) present asking)
 
--- ---- which is given exactly when; `proofs/Replies.antt` proves it of `routed`
+-- ---- which is given exactly when
 
 abbrev pub isRefused : Reply → Bool
 isRefused (refused k) = true
@@ -120,13 +120,18 @@ isTaken n slots = allOf (eqb (length slots) slotCount ∷ sound n ∷ [])
 
 -- by: the call is taken, the slot is owned, this node owns it, the key is present, ASKING came first, the slot's mark
 pub record Exactly (taken owned own present asking : Bool) (marking : Marking) (r : Reply) : Type 0 where
+  -- refusals 1 and 7
   pub refused : isRefused r ≡ not taken
+  -- unowned
   pub down : isDown r ≡ allOf (taken ∷ not owned ∷ [])
+  -- owner is this node, marked migrating and key absent
   pub ask : isAsk r ≡ allOf (taken ∷ owned ∷ own ∷ isMigrating marking ∷ not present ∷ [])
+  -- owner is another, and not both marked importing and asking
   pub moved : isMoved r ≡ allOf (taken ∷ owned ∷ not own ∷ not (allOf (isImporting marking ∷ asking ∷ [])) ∷ [])
+  -- else
   pub serve : isServe r ≡ allOf (taken ∷ owned ∷ cond own (anyOf (not (isMigrating marking) ∷ present ∷ [])) (allOf (isImporting marking ∷ asking ∷ [])) ∷ [])
 
--- ---- what a reply names; `proofs/Replies.antt` proves it of every MOVED and every ASK
+-- ---- what a reply names
 
 -- MOVED: the key's slot and its owner by the table, another node of the roster
 pub record MovedNames (n : Node) (slots key : List ℕ) (s owner : ℕ) : Type 0 where
@@ -142,3 +147,17 @@ pub record AskNames (n : Node) (slots key : List ℕ) (s peer : ℕ) : Type 0 wh
   pub mark's : markingAt n s ≡ Moving (Migrating peer)
   pub inRoster : peer < n .size
   pub another : peer ≡ n .me → ⊥
+
+-- ---- what a caller relies on, at every call
+
+pub record Redirections (n : Node) (slots key : List ℕ) (present asking : Bool) : Type 0 where
+  -- which reply is given exactly when
+  pub exactly : Exactly (isTaken n slots) (listed n (ownerAt slots (keySlot key))) (isOwn n slots (keySlot key)) present asking
+      (markingAt n (keySlot key)) (routed n slots key present asking)
+  -- what every MOVED and every ASK names
+  pub moved-names : (s owner : ℕ) → routed n slots key present asking ≡ moved s owner → MovedNames n slots key s owner
+  pub ask-names : (s peer : ℕ) → routed n slots key present asking ≡ ask s peer → AskNames n slots key s peer
+
+-- a reply in 01's words fixes the case of the code's answer
+abbrev pub ReplySettles : Redirect → Redirect → Type 0
+ReplySettles a b = reply a ≡ reply b → a ≡ b

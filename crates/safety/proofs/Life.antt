@@ -10,7 +10,7 @@ use native.Mathlib.Omega.{arith}
 use lib.Dec.{eqb}
 use borrow.Author.Tests.{eqb-true, ne-eqb}
 use Rattle.safety.specs.Deeds.{Deed, granted, counted, won, opened, announced, other, Did, grantOf, grants, Has, NoneTwice, greatest, Counted, Won, isOpening, listedAfter, listedMaster, votingSet}
-use Rattle.tables.proofs.Sets.{Majority}
+use Rattle.tables.specs.Majorities.{Majority}
 
 -- ---- what is looked at in a node's state
 

@@ -7,8 +7,9 @@ use native.Mathlib.Nat.{le-refl, le-trans}
 use lib.Dec.{eqb}
 use lib.ListN.{getD, List·getD-map}
 use Rattle.tables.specs.Sizes.{nodeRoom}
+use Rattle.tables.specs.Majorities.{Majority}
 use Rattle.tables.proofs.Below.{count-like}
-use Rattle.tables.proofs.Sets.{Majority, meet}
+use Rattle.tables.proofs.Sets.{majorities-meet}
 use Rattle.state.specs.declared.Node.{Node}
 use Rattle.state.specs.declared.Record.{Record}
 use Rattle.state.specs.declared.Role.the-variants.{Master}
@@ -103,7 +104,7 @@ demand3 r timeouts ms = record {
       let B : Win nodeRoom (masterBy r) b e beforeB (history r timeouts ms b) = win r timeouts ms b e beforeB wb in
       let sets : ((k : ℕ) → B .set k ≡ A .set k) = λ k. B .voters-are k ∙ sym (same k) ∙ sym (A .voters-are k) in
       let most : Majority nodeRoom (B .heard) (A .set) = rw (← count-like (B .set) (A .set) nodeRoom (λ k h. sets k)) (B .most) in
-      let both = meet nodeRoom (A .heard) (B .heard) (A .set) (λ k t. A .heard-are k t .0) (λ k t. sym (sets k) ∙ B .heard-are k t .0) (A .most) most in
+      let both = majorities-meet nodeRoom (A .set) (A .heard) (B .heard) (λ k t. A .heard-are k t .0) (λ k t. sym (sets k) ∙ B .heard-are k t .0) (A .most) most in
       let v : ℕ = both .0 in
       one-voter r timeouts ms a b e v (ga v (A .heard-are v (both .1) .1)) (gb v (B .heard-are v (both .2) .1));
 }

@@ -3,7 +3,7 @@ use mathlib.Core.Path.{_≡_, refl, sym, ap, ap₂, _∙_}
 use mathlib.Core.Bool.{Bool, true, false}
 use Prim.Native.Nat.{ℕ, _+_, _-_, _<_}
 use native.Mathlib.Omega.{arith}
-use lib.ListN.{length, getD}
+use lib.ListN.{getD}
 use lib.Seq.{getD-take}
 use lib.Dec.{ltb}
 use borrow.Author.Tests.{ltb-true}
@@ -16,6 +16,7 @@ use Rattle.state.specs.Same.{Held, Same}
 use Rattle.state.specs.declared.Node.{Node}
 use Rattle.state.specs.declared.Record.{Record}
 use Rattle.soundness.specs.Sound.{sound, soundChecks, arraysWhole, boundsKept, idsAscend, idInOrder, recordsSound, recordSoundAt, electionSound, marksAscend, slotInOrder, marksSound, markSoundAt}
+use Rattle.soundness.specs.SoundStates.{SameSound}
 use Rattle.soundness.proofs.Kept.{election-like}
 
 module _ (a b : Node) (e : Same a b) where
@@ -81,23 +82,19 @@ module _ (a b : Node) (e : Same a b) where
       every-same (markSoundAt a) (markSoundAt b) (a .marked) (λ k h. rw (mark-is k h, size-is, me-is))
       ∙ ap (λ (n : ℕ). every n (markSoundAt b)) marked-is
 
-  -- the arrays have their types' lengths
-  module _ (l : length (a .ids) ≡ length (b .ids)) (r : length (a .records) ≡ length (b .records)) (m : length (a .marks) ≡ length (b .marks)) where
-    arrays-same : arraysWhole a ≡ arraysWhole b
-    unfolding arraysWhole
-    arrays-same = rw (l, r, m)
+  -- ---- all of them
 
-    checks-same : a .me < a .size → soundChecks a ≡ soundChecks b
-    checks-same h =
-        let own : recordAt a (a .me) ≡ recordAt b (b .me) = record-is (a .me) h ∙ ap (recordAt b) me-is in
-        let x : electionSound a (a .election) ≡ electionSound b (b .election) = election-like a b size-is clock-is current-is (ap (λ (k : Record). k .role) own) (a .election) ∙ ap (λ (y : Held). electionSound b (y .election)) e in
-        let v = ap (λ (y : Held). y .voted) e in
-        rw (arrays-same, bounds-same, ids-same, records-same, x, slots-same, marks-same, own, v, current-is, me-is, size-is)
+  checks-same : arraysWhole a ≡ arraysWhole b → a .me < a .size → soundChecks a ≡ soundChecks b
+  checks-same whole h =
+      let own : recordAt a (a .me) ≡ recordAt b (b .me) = record-is (a .me) h ∙ ap (recordAt b) me-is in
+      let x : electionSound a (a .election) ≡ electionSound b (b .election) = election-like a b size-is clock-is current-is (ap (λ (k : Record). k .role) own) (a .election) ∙ ap (λ (y : Held). electionSound b (y .election)) e in
+      let v = ap (λ (y : Held). y .voted) e in
+      rw (whole, bounds-same, ids-same, records-same, x, slots-same, marks-same, own, v, current-is, me-is, size-is)
 
-    pub same-sound : sound a ≡ sound b
-    unfolding sound
-    same-sound = by (ltb (a .me) (a .size)) refl
-      where
-        by : (t : Bool) → t ≡ ltb (a .me) (a .size) → allOf (soundChecks a) ≡ allOf (soundChecks b)
-        by true f = ap allOf (checks-same (ltb-true (a .me) (a .size) (sym f)))
-        by false f = sym (fails 3 (soundChecks a) (sym f)) ∙ fails 3 (soundChecks b) (sym (f ∙ ap₂ ltb me-is size-is))
+pub same-sound : (a b : Node) → SameSound a b
+unfolding sound
+same-sound a b wa wb e = by (ltb (a .me) (a .size)) refl
+  where
+    by : (t : Bool) → t ≡ ltb (a .me) (a .size) → allOf (soundChecks a) ≡ allOf (soundChecks b)
+    by true f = ap allOf (checks-same a b e (wa ∙ sym wb) (ltb-true (a .me) (a .size) (sym f)))
+    by false f = sym (fails 3 (soundChecks a) (sym f)) ∙ fails 3 (soundChecks b) (sym (f ∙ ap₂ ltb (me-is a b e) (size-is a b e)))

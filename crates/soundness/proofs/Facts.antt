@@ -16,9 +16,11 @@ use Rattle.state.specs.declared.Role.the-variants.{Replica}
 use Rattle.state.specs.declared.Election.{Election}
 use Rattle.state.specs.declared.Election.the-variants.{Closed, Open}
 use Rattle.soundness.specs.Sound.{sound, soundChecks, arraysWhole, boundsKept, boundChecks, idsAscend, idInOrder, before, followSound, momentSound, flagSound, recordChecks, recordSound, recordSoundAt, recordsSound, electionSound, electionChecks, marksAscend, slotInOrder, marksSound, markSound, markSoundAt, ownClear}
-use Rattle.nodesets.specs.NodeSets.{has, within, below}
+use Rattle.soundness.specs.SoundStates.{OpenElection}
+use Rattle.nodesets.specs.NodeSets.{within, below}
+use Rattle.nodesets.specs.Members.{Fits}
 use Rattle.nodesets.specs.declared.NodeSet.{NodeSet}
-use Rattle.nodesets.proofs.Members.{Fits, part-in, below-in, fits-below, part-fits}
+use Rattle.nodesets.proofs.Members.{part-in, below-in, fits-below, part-fits}
 
 module _ (n : Node) (h : sound n ≡ true) where
   pub sound-part : (k : ℕ) → getD (soundChecks n) k true ≡ true
@@ -170,9 +172,11 @@ module _ (n : Node) (epoch opened : ℕ) (voters heard : NodeSet) (h : electionS
   pub heard-fit : Fits heard
   heard-fit = part-fits heard voters open-heard voters-fit
 
-  -- number by number: every voter is in the roster, and every ack heard is a voter's
-  pub voter-listed : (v : ℕ) → has voters v ≡ true → v < n .size
-  voter-listed = below-in voters (n .size) open-voters
-
-  pub heard-voter : (v : ℕ) → has heard v ≡ true → has voters v ≡ true
-  heard-voter = part-in heard voters open-heard
+-- number by number
+pub open-election : (n : Node) → OpenElection n
+open-election n h epoch opened voters heard e =
+    let s : electionSound n (Open epoch opened voters heard) ≡ true = ap (electionSound n) (sym e) ∙ election-is-sound n h in
+    record {
+      listed = below-in voters (n .size) (open-voters n epoch opened voters heard s);
+      heard-within = part-in heard voters (open-heard n epoch opened voters heard s);
+    }

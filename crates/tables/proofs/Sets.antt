@@ -1,6 +1,6 @@
--- Laws of node sets over any number of words: members and counts of ones, one member more, and that two majorities meet.
+-- Laws of node sets: two majorities meet; and over any number of words members and counts of ones, and one member more.
 use mathlib.Core.Path.{_≡_, refl, sym, ap, ap₂, _∙_}
-use mathlib.Core.Logic.{_⊎_, inl, inr, ⊎-elim}
+use mathlib.Core.Logic.{_↔_, _⊎_, inl, inr, ⊎-elim}
 use mathlib.Core.Bool.{Bool, true, false, _||_, cond, or-false}
 use mathlib.Core.List.{List, [], _∷_}
 use Prim.Native.Nat.{ℕ, zero, suc, _+_, _-_, _*_, _/_, _%_, _^_, _≤_, _<_}
@@ -15,7 +15,8 @@ use lib.Pow.{pow-pos, mod-pow-add, pow-lt, pow-add, shl-shr}
 use lib.ListN.{length, getD}
 use lib.Seq.{getD-set-same, getD-set-other}
 use Rattle.tables.specs.Below.{count}
-use Rattle.tables.specs.Sets.{bit, has, add, size, majority, wordOf, wordsFrom}
+use Rattle.tables.specs.Sets.{bit, has, add, size, AllFit, majority, wordOf, wordsFrom}
+use Rattle.tables.specs.Majorities.{Within, Majority, Meet, MajoritiesMeet}
 use Rattle.tables.proofs.Below.{count-like}
 
 -- ---- two majorities of one set meet, for sets as tests
@@ -32,17 +33,6 @@ count-step p n = by (p n) (count p n)
     by : (t : Bool) (c : ℕ) → cond t (c + 1) c ≡ one t + c
     by true c = omega arith
     by false c = omega arith
-
--- every member of a is one of s
-abbrev pub Within : (ℕ → Bool) → (ℕ → Bool) → Type 0
-Within a s = (k : ℕ) → a k ≡ true → s k ≡ true
-
-abbrev pub Meet : (ℕ → Bool) → (ℕ → Bool) → Type 0
-Meet a b = (k : ℕ) × (a k ≡ true) × (b k ≡ true)
-
--- more than half of the members of s below n are in a
-abbrev pub Majority : ℕ → (ℕ → Bool) → (ℕ → Bool) → Type 0
-Majority n a s = count s n < 2 * count a n
 
 -- at one number: in both, or the two count no more than s there
 at : (a b s : Bool) → (a ≡ true → s ≡ true) → (b ≡ true → s ≡ true) → ((a ≡ true) × (b ≡ true)) ⊎ (one a + one b ≤ one s)
@@ -63,8 +53,8 @@ apart a b s f g (suc n) = go (at (a n) (b n) (s n) (f n) (g n)) (apart a b s f g
     go (inr l) (inl m) = inl m
     go (inr l) (inr r) = inr (rw (count-step a n, count-step b n, count-step s n) (omega arith))
 
-pub meet : (n : ℕ) (a b s : ℕ → Bool) → Within a s → Within b s → Majority n a s → Majority n b s → Meet a b
-meet n a b s f g p q = ⊎-elim (λ m. m) (λ l. absurd (omega arith)) (apart a b s f g n)
+pub majorities-meet : (n : ℕ) (whole a b : ℕ → Bool) → MajoritiesMeet n whole a b
+majorities-meet n whole a b f g p q = ⊎-elim (λ m. m) (λ l. absurd (omega arith)) (apart a b whole f g n)
 
 -- ---- the members of a word are counted by its ones
 
@@ -106,11 +96,6 @@ count-split : (p : ℕ → Bool) (a m : ℕ) → count p (a + m) ≡ count p a +
 unfolding count
 count-split p a zero = rw add-zero (sym (add-zero (count p a)))
 count-split p a (suc m) = rw (add-suc a m, count-step p (a + m), count-step (λ k. p (a + k)) m) (omega (arith, count-split p a m))
-
--- every word fits 64 bits
-abbrev pub AllFit : List ℕ → Type 0
-AllFit [] = Unit {0}
-AllFit (w ∷ ws) = (w < 2 ^ 64) × AllFit ws
 
 has-low : (w : ℕ) (ws : List ℕ) (k : ℕ) → k < 64 → has (w ∷ ws) k ≡ bit w k
 has-low w ws k h =
@@ -156,7 +141,7 @@ bit-or a b k =
     two = omega arith
 
 -- the bits of 2 ^ v: v alone
-bit-power : (v k : ℕ) → bit (2 ^ v) k ≡ eqb k v
+pub bit-power : (v k : ℕ) → bit (2 ^ v) k ≡ eqb k v
 bit-power v k = go (decLt v k) (decLt k v)
   where
     even : k < v → 2 ^ v / 2 ^ k % 2 ≡ 0
@@ -279,14 +264,8 @@ words-fit p from (suc n) = (word-fits p from 64, words-fit p (from + 64) n)
 
 -- ---- majorities by counts of ones
 
-pub majority-counts : (voters heard : List ℕ) → AllFit voters → AllFit heard → length heard ≡ length voters → majority voters heard ≡ true
-    → Majority (64 * length voters) (has heard) (has voters)
-majority-counts voters heard f g l m =
+pub majority-counts : (voters heard : List ℕ) → AllFit voters → AllFit heard → length heard ≡ length voters
+    → (majority voters heard ≡ true) ↔ Majority (64 * length voters) (has heard) (has voters)
+majority-counts voters heard f g l =
     let c : count (has heard) (64 * length voters) ≡ size heard = rw (← l) (count-size heard g) in
-    rw (count-size voters f, c) (ltb-true (size voters) (2 * size heard) m)
-
--- two parts of one set that are each more than half of it have a member in common
-pub majorities-meet : (voters a b : List ℕ) → AllFit voters → AllFit a → AllFit b → length a ≡ length voters → length b ≡ length voters
-    → Within (has a) (has voters) → Within (has b) (has voters) → majority voters a ≡ true → majority voters b ≡ true → Meet (has a) (has b)
-majorities-meet voters a b f g h la lb wa wb ma mb =
-    meet (64 * length voters) (has a) (has b) (has voters) wa wb (majority-counts voters a f g la ma) (majority-counts voters b f h lb mb)
+    rw (count-size voters f, c) (ltb-true (size voters) (2 * size heard), lt-ltb (size voters) (2 * size heard))

@@ -15,9 +15,9 @@ use lib.ListN.{length, getD, set, List·getD-eq-default}
 use lib.Seq.{set-out}
 use lib.Pow.{pow-pos, pow-mono, pow-lt, split, shr-shr}
 use borrow.Author.Tests.{lt-ltb, le-ltb, ltb-true, eq-eqb, ne-eqb, eqb-true}
-use Rattle.tables.specs.Sets.{bit, has, add, majority, within, below, wordOf}
+use Rattle.tables.specs.Sets.{bit, has, add, AllFit, majority, within, below, wordOf}
 use Rattle.tables.proofs.Checks.{never}
-use Rattle.tables.proofs.Sets.{AllFit, bit-zero, bit-past}
+use Rattle.tables.proofs.Sets.{bit-zero, bit-past}
 
 two : 0 < 2
 two = omega arith

@@ -3,3 +3,4 @@ pub mod Checks
 pub mod Below
 pub mod Lists
 pub mod Sets
+pub mod Majorities

@@ -1,6 +1,7 @@
 -- Sets of node numbers, as any number of words of 64 bits: v is bit v mod 64 of word v / 64, least first.
-use Prim.Native.Nat.{ℕ, zero, suc, _+_, _-_, _*_, _/_, _%_, _^_, min}
-use mathlib.Core.Bool.{Bool, true, false, cond}
+use Prim.Native.Nat.{ℕ, zero, suc, _+_, _-_, _*_, _/_, _%_, _^_, min, _<_}
+use mathlib.Core.Path.{_≡_}
+use mathlib.Core.Bool.{Bool, true, false, cond, _||_}
 use mathlib.Core.List.{List, [], _∷_}
 use lib.Dec.{eqb, ltb}
 use lib.Count.{ones}
@@ -23,6 +24,11 @@ add ws v = set ws (v / 64) (bitOr (getD ws (v / 64) 0) (2 ^ (v % 64)))
 abbrev pub size : List ℕ → ℕ
 size [] = 0
 size (w ∷ ws) = ones w + size ws
+
+-- every word fits 64 bits
+abbrev pub AllFit : List ℕ → Type 0
+AllFit [] = Unit {0}
+AllFit (w ∷ ws) = (w < 2 ^ 64) × AllFit ws
 
 -- more than half of a set are heard, by their counts of ones
 abbrev pub majority : List ℕ → List ℕ → Bool
@@ -51,3 +57,7 @@ wordsFrom p from (suc n) = wordOf p from 64 ∷ wordsFrom p (from + 64) n
 -- ---- a claim's bitmap: slot s is bit s mod 8, least first, of byte s / 8 (01, "Frames")
 abbrev pub claimed : List ℕ → ℕ → Bool
 claimed bitmap s = bit (getD bitmap (s / 8) 0) (s % 8)
+
+-- least first: the bytes 01 and 80 (hexadecimal) claim the first slot of the one and the last of the other, 0 and 15, and no more
+abbrev pub LeastFirst : ℕ → Type 0
+LeastFirst s = claimed (0x01 ∷ 0x80 ∷ []) s ≡ (eqb s 0 || eqb s 15)
