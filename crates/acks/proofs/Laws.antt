@@ -1,31 +1,31 @@
--- What an ack does to a node, each law with a name.
+-- What an ack does to a node, and what holds of it put together.
 use mathlib.Core.Path.{_≡_, refl, ap, _∙_}
-use mathlib.Core.Bool.{true, _||_}
+use mathlib.Core.Bool.{true}
 use mathlib.Core.List.{List, [], _∷_}
-use Prim.Native.Nat.{ℕ, zero, suc, _*_, _<_}
+use Prim.Native.Nat.{ℕ, zero, suc, _*_}
 use native.Mathlib.Omega.{arith}
-use lib.Dec.{eqb}
 use lib.ListN.{getD, set}
 use lib.Seq.{set-getD, getD-set-other}
-use borrow.Author.Tests.{ltb-true}
+use borrow.Author.Tests.{ltb-true, ltb-false}
 use Rattle.tables.specs.Sizes.{nodeRoom}
 use Rattle.tables.specs.Majorities.{Majority}
 use Rattle.nodesets.specs.NodeSets.{has, added, count, majority}
 use Rattle.nodesets.specs.declared.NodeSet.{NodeSet}
 use Rattle.nodesets.proofs.Members.{in-room, in-added, added-fits, most-counted}
 use Rattle.answers.specs.declared.Answer.the-variants.{Done, Won}
-use Rattle.state.specs.Node.{blank, recordAt, roleAt, masterAt}
+use Rattle.state.specs.Node.{blank, recordAt, masterAt}
 use Rattle.state.specs.Changes.{withRecord, withRecords, withElection}
 use Rattle.state.specs.Outcomes.{Slotted}
 use Rattle.state.specs.declared.Node.{Node}
 use Rattle.state.specs.declared.Record.{Record}
-use Rattle.state.specs.declared.Election.the-variants.{Closed, Open}
+use Rattle.state.specs.declared.Election.the-variants.{Closed}
 use Rattle.soundness.specs.Sound.{sound}
 use Rattle.soundness.proofs.Facts.{voters-fit, heard-fit}
 use Rattle.soundness.proofs.Keeps.{Keeps}
-use Rattle.acks.specs.Acks.{winner, passed, promoted, acked}
-use Rattle.acks.proofs.Steps.{Hears, more, ack-cases}
-use Rattle.acks.proofs.Kept.{running-sound}
+use Rattle.acks.specs.Acks.{winner, promoted, acked}
+use Rattle.acks.specs.Counts.{Hears, Counts, GoesOn, Wins, AckLaws}
+use Rattle.acks.proofs.Steps.{ack-cases}
+use Rattle.acks.proofs.Kept.{running-sound, ack-sound}
 
 -- what was stored at a place stands there again, stored once more
 set-got : {A : Type 0} (l : List A) (i : ℕ) (a d : A) → set l i a ≡ set l i (getD (set l i a) i d)
@@ -37,55 +37,45 @@ module _ (n : Node) (slots : List ℕ) (voter candidate epoch : ℕ) where
   abbrev hearing : Slotted
   hearing = acked n slots voter candidate epoch
 
-  -- an ack that counts: of a voter of the set, for the open election's epoch and this candidate, and that voter alone is added
-  pub record Counts : Type 0 where
-    pub opened : ℕ
-    pub voters : NodeSet
-    pub heard : NodeSet
-    pub after : NodeSet
-    pub hears : Hears n slots voter candidate epoch opened voters heard
-    pub adds : (k : ℕ) → has after k ≡ (has heard k || eqb k voter)
-
-  abbrev counts : (opened : ℕ) (voters heard : NodeSet) → Hears n slots voter candidate epoch opened voters heard → Counts
+  abbrev counts : (opened : ℕ) (voters heard : NodeSet) → Hears n voter candidate epoch opened voters heard → Counts n voter candidate epoch
   counts opened voters heard h = record {
     opened = opened;
     voters = voters;
     heard = heard;
-    after = more n slots voter candidate epoch heard;
+    after = added heard voter;
     hears = h;
     adds = λ k. in-added heard voter k (in-room voters voter (h .voter-in));
   }
 
-  -- 0: counted, the election goes on with that voter heard, and nothing else changes
-  pub counted-ack : hearing .outcome .answer ≡ Done → (c : Counts) × (hearing .outcome .node ≡ withElection (Open epoch (c .opened) (c .voters) (c .after)) n) × (hearing .slots ≡ slots)
-  counted-ack =
-      ack-cases n slots voter candidate epoch (λ (o : Slotted). o .outcome .answer ≡ Done → (c : Counts) × (o .outcome .node ≡ withElection (Open epoch (c .opened) (c .voters) (c .after)) n) × (o .slots ≡ slots))
-      (λ a t e. absurd (rw e at t)) (λ o v h w m e. (counts o v h w, refl, refl)) (λ o v h w m e. let z : _≡_ {A = ℕ} 0 1 = cc in absurd (omega arith))
+  -- 0: counted, not more than half, and the election goes on
+  goes-on : hearing .outcome .answer ≡ Done → GoesOn n slots voter candidate epoch hearing
+  goes-on =
+      ack-cases n slots voter candidate epoch (λ (o : Slotted). o .outcome .answer ≡ Done → GoesOn n slots voter candidate epoch o)
+      (λ a t e. absurd (rw e at t))
+      (λ o v h w m e. record { counts = counts o v h w; not-most = ltb-false (count v) (2 * count (added h voter)) m; node = refl; slots-kept = refl })
+      (λ o v h w m e. let z : _≡_ {A = ℕ} 0 1 = cc in absurd (omega arith))
 
-  -- 30: counted, more than half of the set are heard, and the election is closed
-  pub won-ack : hearing .outcome .answer ≡ Won → (c : Counts) × (count (c .voters) < 2 * count (c .after)) × (hearing .outcome .node ≡ promoted epoch n) × (hearing .slots ≡ passed (roleAt n (n .me)) (n .me) slots)
-  won-ack =
-      ack-cases n slots voter candidate epoch (λ (o : Slotted). o .outcome .answer ≡ Won → (c : Counts) × (count (c .voters) < 2 * count (c .after)) × (o .outcome .node ≡ promoted epoch n) × (o .slots ≡ passed (roleAt n (n .me)) (n .me) slots))
-      (λ a t e. absurd (rw e at t)) (λ o v h w m e. let z : _≡_ {A = ℕ} 0 1 = cc in absurd (omega arith))
-      (λ o v h w m e. (counts o v h w, ltb-true (count v) (2 * count (more n slots voter candidate epoch h)) m, refl, refl))
+  -- 30: counted, more than half, and the election is won
+  wins : hearing .outcome .answer ≡ Won → Wins n slots voter candidate epoch hearing
+  wins =
+      ack-cases n slots voter candidate epoch (λ (o : Slotted). o .outcome .answer ≡ Won → Wins n slots voter candidate epoch o)
+      (λ a t e. absurd (rw e at t))
+      (λ o v h w m e. let z : _≡_ {A = ℕ} 0 1 = cc in absurd (omega arith))
+      (λ o v h w m e. record { counts = counts o v h w; most = ltb-true (count v) (2 * count (added h voter)) m; node = refl; slots-pass = refl })
 
   -- any other answer leaves node and table as they were
-  pub refused-ack : (hearing .outcome .answer ≡ Done → ⊥) → (hearing .outcome .answer ≡ Won → ⊥) → (hearing .outcome .node ≡ n) × (hearing .slots ≡ slots)
+  refused-ack : (hearing .outcome .answer ≡ Done → ⊥) → (hearing .outcome .answer ≡ Won → ⊥) → (hearing .outcome .node ≡ n) × (hearing .slots ≡ slots)
   refused-ack =
       ack-cases n slots voter candidate epoch (λ (o : Slotted). (o .outcome .answer ≡ Done → ⊥) → (o .outcome .answer ≡ Won → ⊥) → (o .outcome .node ≡ n) × (o .slots ≡ slots))
       (λ a t d f. (refl, refl)) (λ o v h w m d f. absurd (d refl)) (λ o v h w m d f. absurd (f refl))
 
   -- none changes more than the election and this node's own record
-  pub ack-changes : let b = hearing .outcome .node in b ≡ withElection (b .election) (withRecord (n .me) (recordAt b (n .me)) n)
+  ack-changes : let b = hearing .outcome .node in b ≡ withElection (b .election) (withRecord (n .me) (recordAt b (n .me)) n)
   unfolding withElection withRecords promoted
   ack-changes =
       let P : Slotted → Type 0 = λ o. let b = o .outcome .node in b ≡ withElection (b .election) (withRecord (n .me) (recordAt b (n .me)) n) in
       ack-cases n slots voter candidate epoch P
       (λ a t. rw (set-getD (n .records) (n .me) blank)) (λ o v h w m. rw (set-getD (n .records) (n .me) blank)) (λ o v h w m. ap (λ (rs : List Record). withElection Closed (withRecords rs n)) (set-got (n .records) (n .me) (winner epoch (recordAt n (n .me))) blank))
-
-  pub ack-voted : hearing .outcome .node .voted ≡ n .voted
-  unfolding withElection withRecords
-  ack-voted = ap (λ (b : Node). b .voted) ack-changes
 
   pub ack-keeps : Keeps n (hearing .outcome .node)
   unfolding withElection withRecords
@@ -96,8 +86,18 @@ module _ (n : Node) (slots : List ℕ) (voter candidate epoch : ℕ) where
   }
 
 -- the majority of a win, by members, in a sound state
-pub won-most : (n : Node) (slots : List ℕ) (voter candidate epoch opened : ℕ) (voters heard : NodeSet) → sound n ≡ true → Hears n slots voter candidate epoch opened voters heard
-    → majority voters (more n slots voter candidate epoch heard) ≡ true → Majority nodeRoom (has (more n slots voter candidate epoch heard)) (has voters)
-won-most n slots voter candidate epoch opened voters heard s h m =
-    let x = running-sound n slots voter candidate epoch opened voters heard s h in
+pub won-most : (n : Node) (voter candidate epoch opened : ℕ) (voters heard : NodeSet) → sound n ≡ true → Hears n voter candidate epoch opened voters heard
+    → majority voters (added heard voter) ≡ true → Majority nodeRoom (has (added heard voter)) (has voters)
+won-most n voter candidate epoch opened voters heard s h m =
+    let x = running-sound n voter candidate epoch opened voters heard s h in
     most-counted voters (added heard voter) (voters-fit n epoch opened voters heard x) (added-fits heard voter (heard-fit n epoch opened voters heard x)) m
+
+-- ---- together
+
+pub ack-laws : (n : Node) (slots : List ℕ) (voter candidate epoch : ℕ) → AckLaws n slots voter candidate epoch
+ack-laws n slots voter candidate epoch = record {
+  goes-on = goes-on n slots voter candidate epoch;
+  wins = wins n slots voter candidate epoch;
+  refused = refused-ack n slots voter candidate epoch;
+  stays-sound = ack-sound n slots voter candidate epoch;
+}

@@ -1,4 +1,4 @@
--- What a heartbeat changes and what it keeps: the laws of the frame that a reader of the contract looks for.
+-- What a heartbeat changes and what it keeps.
 use mathlib.Core.Path.{_≡_, refl, sym, ap, _∙_}
 use mathlib.Core.Bool.{Bool, true, false, cond}
 use mathlib.Core.List.{List}
@@ -20,7 +20,8 @@ use Rattle.state.specs.declared.Role.{Role}
 use Rattle.state.specs.declared.Role.the-variants.{Master, Replica}
 use Rattle.ownership.specs.Claim.{claimant}
 use Rattle.records.specs.Known.{knownConfigs}
-use Rattle.ownership.proofs.Owners.{ExactlyWhen, passes-exactly-when}
+use Rattle.ownership.specs.Owners.{ExactlyWhen}
+use Rattle.ownership.proofs.Owners.{passes-exactly-when}
 use Rattle.records.proofs.Known.{known-config}
 use Rattle.heartbeats.specs.Heartbeats.{heardOf, withSender, tied, withNewEpoch, bumped, heartbeat}
 
@@ -84,16 +85,6 @@ module _ (n : Node) (slots bitmap : List ℕ) (sender : ℕ) (config : ℕ) wher
       by : (b : Bool) → cond b (withNewEpoch heard) heard ≡ withRecords (cond b (withNewEpoch heard) heard .records) (withCurrent (cond b (withNewEpoch heard) heard .current) n)
       by true = refl
       by false = refl
-
-  -- there are as many records
-  pub heartbeat-room : (role : Role) → length (after role .records) ≡ length (n .records)
-  unfolding heartbeat withSender bumped withRecords withCurrent
-  heartbeat-room (Replica m) = length-set (n .records) sender _
-  heartbeat-room Master = by bumps
-    where
-      by : (b : Bool) → length (cond b (withNewEpoch heard) heard .records) ≡ length (n .records)
-      by true = length-set (heard .records) (n .me) _ ∙ length-set (n .records) sender _
-      by false = length-set (n .records) sender _
 
   -- a replica's heartbeat: the sender's role, and nothing else; no entry of the table
   pub replica-role-only : (m : ℕ) → after (Replica m) ≡ onRecord sender (withRole (Replica m)) n

@@ -1,3 +1,4 @@
 pub mod Steps
 pub mod Frame
 pub mod Sound
+pub mod Laws

@@ -10,9 +10,8 @@ use Rattle.tables.specs.Checks.{allOf}
 use Rattle.tables.specs.Sizes.{top}
 use Rattle.tables.proofs.Checks.{part}
 use Rattle.state.specs.Node.{recordAt}
-use Rattle.state.specs.Changes.{withRole, withConfig, withRecord, withRecords, withCurrent, risen}
+use Rattle.state.specs.Changes.{withRole, withConfig, withRecords, withCurrent, risen}
 use Rattle.state.specs.declared.Node.{Node}
-use Rattle.state.specs.declared.Record.{Record}
 use Rattle.state.specs.declared.Role.{Role}
 use Rattle.state.specs.declared.Role.the-variants.{Master, Replica}
 use Rattle.soundness.specs.Sound.{sound, recordSound, followSound, recordChecks, ownClear}

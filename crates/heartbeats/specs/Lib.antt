@@ -1,1 +1,2 @@
 pub mod Heartbeats
+pub mod Heard

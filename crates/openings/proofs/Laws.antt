@@ -1,4 +1,4 @@
--- What an opening does to a node, each law with a name.
+-- What an opening does to a node, and what holds of it put together.
 use mathlib.Core.Path.{_≡_, refl, ap, _∙_}
 use mathlib.Core.Bool.{false, cond}
 use mathlib.Core.List.{List}
@@ -9,33 +9,21 @@ use lib.Dec.{ltb}
 use borrow.Author.Tests.{lt-ltb, le-ltb}
 use Rattle.tables.specs.Sizes.{nodeRoom}
 use Rattle.nodesets.specs.NodeSets.{none, has}
-use Rattle.nodesets.specs.declared.NodeSet.{NodeSet}
 use Rattle.nodesets.proofs.Members.{none-in, in-gathered}
 use Rattle.answers.specs.declared.Answer.the-variants.{Done}
 use Rattle.state.specs.Node.{masterAt, masters}
 use Rattle.state.specs.Changes.{withClock, withCurrent, withElection}
 use Rattle.state.specs.declared.Node.{Node}
-use Rattle.state.specs.declared.Election.the-variants.{Open}
 use Rattle.state.specs.declared.Outcome.{Outcome}
 use Rattle.soundness.proofs.Facts.{few-nodes}
 use Rattle.soundness.proofs.Keeps.{Keeps}
 use Rattle.openings.specs.Openings.{opening, opens}
+use Rattle.openings.specs.NewElection.{NewElection, OpeningLaws}
 use Rattle.openings.proofs.Steps.{open-cases}
-
--- a new election: an epoch above currentEpoch as it was, the masters listed for its set, none heard
-pub record NewElection (n n′ : Node) : Type 0 where
-  pub epoch : ℕ
-  pub opened : ℕ
-  pub voters : NodeSet
-  pub heard : NodeSet
-  pub election : n′ .election ≡ Open epoch opened voters heard
-  pub newer : n .current < epoch
-  pub current : n′ .current ≡ epoch
-  pub listed : (k : ℕ) → has voters k ≡ masterAt n k
-  pub unheard : (k : ℕ) → has heard k ≡ false
+use Rattle.openings.proofs.Kept.{open-sound}
 
 -- the set of the masters listed has them as its members
-pub masters-listed : (n : Node) → n .size ≤ nodeRoom → (k : ℕ) → has (masters n) k ≡ masterAt n k
+masters-listed : (n : Node) → n .size ≤ nodeRoom → (k : ℕ) → has (masters n) k ≡ masterAt n k
 masters-listed n l k = in-gathered (masterAt n) k ∙ by (decLt k nodeRoom)
   where
     by : Dec (k < nodeRoom) → cond (ltb k nodeRoom) (masterAt n k) false ≡ masterAt n k
@@ -57,21 +45,22 @@ module _ (n : Node) (slots : List ℕ) (time : ℕ) where
         voters = masters n;
         heard = none;
         election = refl;
-        newer = omega arith;
+        raised = refl;
         current = refl;
+        since = refl;
         listed = masters-listed n (few-nodes n (w .sounds));
         unheard = none-in;
       })
 
   -- any other answer leaves all but the clock as it was
-  pub refused-opening : (opens n slots time .answer ≡ Done → ⊥) → after ≡ withClock (after .clock) n
+  refused-opening : (opens n slots time .answer ≡ Done → ⊥) → after ≡ withClock (after .clock) n
   unfolding withClock
   refused-opening =
       open-cases n slots time (λ (o : Outcome). (o .answer ≡ Done → ⊥) → o .node ≡ withClock (o .node .clock) n)
       (λ a t d. refl) (λ w a t d. refl) (λ w p d. absurd (d refl))
 
   -- none changes more than the clock, currentEpoch and the election
-  pub opening-changes : after ≡ withElection (after .election) (withCurrent (after .current) (withClock (after .clock) n))
+  opening-changes : after ≡ withElection (after .election) (withCurrent (after .current) (withClock (after .clock) n))
   unfolding opening withElection withCurrent withClock
   opening-changes =
       open-cases n slots time (λ (o : Outcome). o .node ≡ withElection (o .node .election) (withCurrent (o .node .current) (withClock (o .node .clock) n)))
@@ -84,3 +73,11 @@ module _ (n : Node) (slots : List ℕ) (time : ℕ) where
   pub opening-keeps : Keeps n after
   unfolding withElection withCurrent withClock
   opening-keeps = record { me = ap (λ (b : Node). b .me) opening-changes; size = ap (λ (b : Node). b .size) opening-changes; others = λ k d. ap (λ (b : Node). masterAt b k) opening-changes }
+
+pub opening-laws : (n : Node) (slots : List ℕ) (time : ℕ) → OpeningLaws n slots time
+opening-laws n slots time = record {
+  opened = opening-new n slots time;
+  refused = refused-opening n slots time;
+  rest = opening-changes n slots time;
+  stays-sound = open-sound n slots time;
+}

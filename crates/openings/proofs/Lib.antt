@@ -1,3 +1,3 @@
 pub mod Steps
-pub mod Laws
 pub mod Kept
+pub mod Laws

@@ -1,23 +1,20 @@
--- What a claim changes, slot by slot and in numbers: the laws that a reader of the contract looks for.
+-- What a claim changes, slot by slot and in numbers.
 use mathlib.Core.Path.{_≡_, refl, sym, _∙_}
 use mathlib.Core.Bool.{Bool, true, false, cond, not}
-use mathlib.Core.List.{List}
-use Prim.Native.Nat.{ℕ, _≤_, _<_}
-use native.Mathlib.Nat.{zero-add}
+use mathlib.Core.List.{List, [], _∷_}
+use Prim.Native.Nat.{ℕ, suc, _+_, _≤_, _<_}
+use native.Mathlib.Nat.{add-zero, zero-add, add-suc, suc-add}
 use native.Mathlib.Omega.{arith}
 use lib.Dec.{eqb, ltb}
 use lib.ListN.{length, getD}
 use borrow.Author.Tests.{lt-ltb, le-ltb, ltb-true, ltb-false, eq-eqb, ne-eqb}
+use Rattle.tables.specs.Lists.{countFrom, countAt}
 use Rattle.tables.specs.Sets.{claimed}
 use Rattle.ownership.specs.Claim.{Claimant, known, fate, fateAt, entryAfter, isBound, isRebound, claim}
+use Rattle.ownership.specs.Owners.{ExactlyWhen, isOwner, isUnowned, changedFrom, ClaimLaws}
+use Rattle.ownership.specs.declared.Fate.{Fate}
 use Rattle.ownership.specs.declared.Fate.the-variants.{Bound, Rebound, Stale, Stays}
-use Rattle.tables.proofs.Walks.{length-mapped, mapped-at, changes, counted}
-
--- an entry that becomes the sender's if, and only if, something holds, and stays its owner's otherwise
-pub record ExactlyWhen (it : Type 0) (after sender owner : ℕ) : Type 0 where
-  pub if : it → after ≡ sender
-  pub only-if : after ≡ sender → it
-  pub otherwise : (it → ⊥) → after ≡ owner
+use Rattle.tables.proofs.Walks.{length-mapped, mapped-at}
 
 -- ---- the table by its places
 
@@ -42,13 +39,14 @@ module _ (c : Claimant) (m slots : List ℕ) where
   unowned-goes s h g e = entry s h ∙ rw (e, le-ltb (getD slots s 0) (c .size) g)
 
   -- the sender's own stays
-  pub own-stays : (s : ℕ) → s < length slots → getD slots s 0 ≡ c .sender → getD slots s 0 < c .size → getD (claim c m slots .slots) s 0 ≡ c .sender
+  own-stays : (s : ℕ) → s < length slots → getD slots s 0 ≡ c .sender → getD (claim c m slots .slots) s 0 ≡ c .sender
   unfolding fate
-  own-stays s h g l = entry s h ∙ by (claimed m s)
+  own-stays s h g = entry s h ∙ by (claimed m s) (ltb (getD slots s 0) (c .size)) _
     where
-      by : (b : Bool) → entryAfter c (cond b (fate c (getD slots s 0)) Stays) (getD slots s 0) ≡ c .sender
-      by true = rw (lt-ltb (getD slots s 0) (c .size) l, eq-eqb (getD slots s 0) (c .sender) g) g
-      by false = g
+      by : (b t : Bool) (φ : Fate) → entryAfter c (cond b (cond t (cond (eqb (getD slots s 0) (c .sender)) Stays φ) Bound) Stays) (getD slots s 0) ≡ c .sender
+      by true true φ = rw (eq-eqb (getD slots s 0) (c .sender) g) g
+      by true false φ = refl
+      by false t φ = g
 
   -- ---- another node's slot passes to the sender exactly when the claim names it with a configEpoch above the owner's known one
 
@@ -93,29 +91,28 @@ module _ (c : Claimant) (m slots : List ℕ) where
 
 -- ---- the counts: how many entries changed, from unowned and from another owner
 
--- unowned before, listed after; listed before, and another after
-abbrev pub wasUnowned : Claimant → ℕ → ℕ → Bool
-wasUnowned c x y = cond (ltb x (c .size)) false (ltb y (c .size))
+-- two tests that agree at every place count the same
+counts-agree : {A : Type 0} (p q : ℕ → A → Bool) (d : A) (i : ℕ) (xs : List A) → ((k : ℕ) → k < length xs → p (i + k) (getD xs k d) ≡ q (i + k) (getD xs k d)) → countFrom p i xs ≡ countFrom q i xs
+unfolding countFrom
+counts-agree p q d i [] f = refl
+counts-agree p q d i (x ∷ xs) f =
+    let z : p i x ≡ q i x = rw (add-zero i) at (f 0 (omega arith)) in
+    rw (z, counts-agree p q d (suc i) xs (λ k h. rw (suc-add i k, ← add-suc i k) (f (suc k) (omega arith))))
 
-abbrev pub wasAnothers : Claimant → ℕ → ℕ → Bool
-wasAnothers c x y = cond (ltb x (c .size)) (not (eqb x y)) false
+-- what stays as it was has not changed
+unchanged : (b : Bool) (x : ℕ) → false ≡ cond b (not (eqb x x)) false
+unchanged true x = rw (eq-eqb x x refl)
+unchanged false x = refl
 
-never : (b : Bool) → false ≡ cond b false b
-never true = refl
-never false = refl
-
-same : (b : Bool) (x : ℕ) → false ≡ cond b (not (eqb x x)) false
-same true x = rw (eq-eqb x x refl)
-same false x = refl
-
-module _ (c : Claimant) (m slots : List ℕ) (in-roster : c .sender < c .size) where
-  bounds : (b t l g : Bool) (x : ℕ)
-      → let f = cond b (cond t Stays (cond l Rebound (cond g Stale Stays))) Bound in isBound f ≡ cond b false (ltb (entryAfter c f x) (c .size))
-  bounds true true l g x = refl
-  bounds true false true g x = refl
-  bounds true false false true x = refl
-  bounds true false false false x = refl
-  bounds false t l g x = sym (lt-ltb _ _ in-roster)
+module _ (c : Claimant) where
+  -- a claimed entry by the tests of its fate, of which the second is whether it is the sender's
+  bounds : c .sender < c .size → (b t l g : Bool) (x : ℕ) → b ≡ isOwner c x
+      → let f = cond b (cond t Stays (cond l Rebound (cond g Stale Stays))) Bound in isBound f ≡ cond (not b) (not (eqb x (entryAfter c f x))) false
+  bounds r true true l g x e = refl
+  bounds r true false true g x e = refl
+  bounds r true false false true x e = refl
+  bounds r true false false false x e = refl
+  bounds r false t l g x e = rw (ne-eqb x (c .sender) (λ q. omega (arith, ltb-false x (c .size) (sym e))))
 
   rebounds : (b t l g : Bool) (x : ℕ) → t ≡ eqb x (c .sender)
       → let f = cond b (cond t Stays (cond l Rebound (cond g Stale Stays))) Bound in isRebound f ≡ cond b (not (eqb x (entryAfter c f x))) false
@@ -125,20 +122,39 @@ module _ (c : Claimant) (m slots : List ℕ) (in-roster : c .sender < c .size) w
   rebounds true false false false x e = rw (eq-eqb x x refl)
   rebounds false t l g x e = refl
 
-  bound-at : (b : Bool) (x : ℕ) → isBound (cond b (fate c x) Stays) ≡ wasUnowned c x (entryAfter c (cond b (fate c x) Stays) x)
+  bound-at : c .sender < c .size → (b : Bool) (x : ℕ) → isBound (cond b (fate c x) Stays) ≡ cond (isUnowned c x) (not (eqb x (entryAfter c (cond b (fate c x) Stays) x))) false
   unfolding fate
-  bound-at true x = bounds (ltb x (c .size)) (eqb x (c .sender)) (ltb (known c x) (c .config)) (ltb (c .config) (known c x)) x
-  bound-at false x = never (ltb x (c .size))
+  bound-at r true x = bounds r (isOwner c x) (eqb x (c .sender)) (ltb (known c x) (c .config)) (ltb (c .config) (known c x)) x refl
+  bound-at r false x = unchanged (isUnowned c x) x
 
-  rebound-at : (b : Bool) (x : ℕ) → isRebound (cond b (fate c x) Stays) ≡ wasAnothers c x (entryAfter c (cond b (fate c x) Stays) x)
+  rebound-at : (b : Bool) (x : ℕ) → isRebound (cond b (fate c x) Stays) ≡ cond (isOwner c x) (not (eqb x (entryAfter c (cond b (fate c x) Stays) x))) false
   unfolding fate
-  rebound-at true x = rebounds (ltb x (c .size)) (eqb x (c .sender)) (ltb (known c x) (c .config)) (ltb (c .config) (known c x)) x refl
-  rebound-at false x = same (ltb x (c .size)) x
+  rebound-at true x = rebounds (isOwner c x) (eqb x (c .sender)) (ltb (known c x) (c .config)) (ltb (c .config) (known c x)) x refl
+  rebound-at false x = unchanged (isOwner c x) x
 
-  pub bound-counts : claim c m slots .tally .bound ≡ changes (wasUnowned c) slots (claim c m slots .slots)
-  unfolding claim
-  bound-counts = counted _ (wasUnowned c) (λ s o. entryAfter c (fateAt c m s o) o) (λ s x. bound-at (claimed m s) x) 0 slots
+  module _ (m slots : List ℕ) where
+    -- a count by fates is a count of changes, where the two agree at each entry
+    counted : (p : Fate → Bool) (such : ℕ → Bool) → ((b : Bool) (x : ℕ) → p (cond b (fate c x) Stays) ≡ cond (such x) (not (eqb x (entryAfter c (cond b (fate c x) Stays) x))) false)
+        → countAt (λ s o. p (fateAt c m s o)) slots ≡ changedFrom such slots (claim c m slots .slots)
+    counted p such f = counts-agree _ _ 0 0 slots (λ k h. rw (zero-add k, entry c m slots k h) (f (claimed m k) (getD slots k 0)))
 
-  pub rebound-counts : claim c m slots .tally .rebound ≡ changes (wasAnothers c) slots (claim c m slots .slots)
-  unfolding claim
-  rebound-counts = counted _ (wasAnothers c) (λ s o. entryAfter c (fateAt c m s o) o) (λ s x. rebound-at (claimed m s) x) 0 slots
+    bound-counts : c .sender < c .size → claim c m slots .tally .bound ≡ changedFrom (isUnowned c) slots (claim c m slots .slots)
+    unfolding claim
+    bound-counts r = counted isBound (isUnowned c) (bound-at r)
+
+    rebound-counts : claim c m slots .tally .rebound ≡ changedFrom (isOwner c) slots (claim c m slots .slots)
+    unfolding claim
+    rebound-counts = counted isRebound (isOwner c) rebound-at
+
+-- ---- together
+
+pub claim-laws : (c : Claimant) (bitmap slots : List ℕ) → ClaimLaws c bitmap slots
+claim-laws c bitmap slots = record {
+  long = length-kept c bitmap slots;
+  unclaimed = unclaimed-stays c bitmap slots;
+  unowned = unowned-goes c bitmap slots;
+  own = own-stays c bitmap slots;
+  another = passes-exactly-when c bitmap slots;
+  bound = bound-counts c bitmap slots;
+  rebound = rebound-counts c bitmap slots;
+}

@@ -1,4 +1,4 @@
--- What probes and ticks leave as it was: `probes-keep` and `probes-change`.
+-- What probes and ticks leave as it was.
 use mathlib.Core.Path.{_≡_, refl}
 use mathlib.Core.List.{List}
 use Prim.Native.Nat.{ℕ, _≤_}
@@ -16,20 +16,19 @@ use Rattle.failure.specs.Keeps.{Kept, PingsOnly, FlagsOnly, OthersKept}
 use Rattle.failure.proofs.Records.{record-out}
 use Rattle.failure.proofs.Keeps.{only-one, others-one, flag-set, flags-same, flags-then, flags-kept, looked-flags}
 use Rattle.probes.specs.Probes.{afterProbe, probed, flagIfUnanswered, suspected, allSuspected, allLookedAt, ticked}
-use Rattle.probes.specs.Keeps.{ProbesKeep, ProbesChange}
 
 -- ---- one node
 
-probed-kept : (n : Node) (slots : List ℕ) (s : ℕ) (echo : Echo) → Kept n (probed n slots s echo)
+pub probed-kept : (n : Node) (slots : List ℕ) (s : ℕ) (echo : Echo) → Kept n (probed n slots s echo)
 unfolding probed afterProbe
 probed-kept n slots s Ping = only-one _ (λ r. refl) n s _ refl
 probed-kept n slots s Pong = only-one _ (λ r. refl) n s _ refl
 
-pinged : (n : Node) (slots : List ℕ) (s : ℕ) → PingsOnly n (probed n slots s Ping)
+pub pinged : (n : Node) (slots : List ℕ) (s : ℕ) → PingsOnly n (probed n slots s Ping)
 unfolding probed afterProbe
 pinged n slots s = only-one _ (λ r. refl) n s _ refl
 
-probed-others : (n : Node) (slots : List ℕ) (s : ℕ) (echo : Echo) → OthersKept s n (probed n slots s echo)
+pub probed-others : (n : Node) (slots : List ℕ) (s : ℕ) (echo : Echo) → OthersKept s n (probed n slots s echo)
 unfolding probed
 probed-others n slots s echo = others-one n s (afterProbe n slots s echo (recordAt n s))
 
@@ -58,20 +57,11 @@ all-looked : (masters : NodeSet) (reports : List ℕ) (n : Node) → FlagsOnly n
 unfolding allLookedAt
 all-looked masters reports n = turns (lookedAt masters reports) (looked-flags masters reports) n (n .size)
 
-ticked-flags : (n : Node) (reports : List ℕ) → FlagsOnly n (ticked n reports)
+pub ticked-flags : (n : Node) (reports : List ℕ) → FlagsOnly n (ticked n reports)
 unfolding ticked
 ticked-flags n reports =
     let m = allSuspected n in
     flags-then n m (allLookedAt (masters n) reports m) (all-suspected n) (all-looked (masters n) reports m)
 
--- ---- together
-
-pub probes-keep : (n : Node) → ProbesKeep n
-probes-keep n = record { probe = probed-kept n; tick = λ reports. flags-kept n (ticked n reports) (ticked-flags n reports) }
-
-pub probes-change : (n : Node) → ProbesChange n
-probes-change n = record {
-  ping = λ slots s. (pinged n slots s, probed-others n slots s Ping);
-  pong = λ slots s. probed-others n slots s Pong;
-  tick = ticked-flags n;
-}
+pub ticked-kept : (n : Node) (reports : List ℕ) → Kept n (ticked n reports)
+ticked-kept n reports = flags-kept n (ticked n reports) (ticked-flags n reports)

@@ -1,3 +1,4 @@
 pub mod Keeps
 pub mod Ticks
 pub mod Sound
+pub mod Laws

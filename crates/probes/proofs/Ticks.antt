@@ -1,4 +1,4 @@
--- A tick settles each node's flag by itself, whatever the order of the nodes: `tick-each`. And what its loops come to.
+-- A tick settles each node's flag by itself, whatever the order of the nodes, and what its loops come to.
 use mathlib.Core.Path.{_≡_, refl, sym, ap, ap₂, _∙_}
 use mathlib.Core.List.{List}
 use mathlib.Core.Logic.{⊎-elim}

@@ -1,19 +1,31 @@
--- What probes and ticks change, and what they leave as it was.
+-- What probes and ticks change, what they leave as it was, and that a sound state stays sound.
+use mathlib.Core.Path.{_≡_}
+use mathlib.Core.Bool.{true}
 use mathlib.Core.List.{List}
-use Prim.Native.Nat.{ℕ}
+use Prim.Native.Nat.{ℕ, _<_}
+use Rattle.state.specs.Node.{recordAt}
 use Rattle.state.specs.declared.Node.{Node}
 use Rattle.state.specs.declared.Echo.{Echo}
-use Rattle.state.specs.declared.Echo.the-variants.{Ping, Pong}
+use Rattle.state.specs.declared.Echo.the-variants.{Ping}
+use Rattle.soundness.specs.Sound.{sound}
 use Rattle.failure.specs.Keeps.{Kept, PingsOnly, FlagsOnly, OthersKept}
-use Rattle.probes.specs.Probes.{probed, ticked}
+use Rattle.probes.specs.Probes.{probed, ticked, tickFlag}
 
--- probes and ticks on n: epochs, roles, marks, the election and all else but pings and flags stay
-pub record ProbesKeep (n : Node) : Type 0 where
-  pub probe : (slots : List ℕ) (s : ℕ) (echo : Echo) → Kept n (probed n slots s echo)
-  pub tick : (reports : List ℕ) → Kept n (ticked n reports)
+-- a probe about s
+pub record ProbeLaws (n : Node) (slots : List ℕ) (s : ℕ) (echo : Echo) : Type 0 where
+  -- epochs, roles, marks, the election and all else but pings and flags stay, and every record but the subject's
+  pub kept : Kept n (probed n slots s echo)
+  pub others : OthersKept s n (probed n slots s echo)
+  -- a ping sent leaves the flag too
+  pub ping : echo ≡ Ping → PingsOnly n (probed n slots s echo)
+  -- a sound state stays sound; past check 6 the subject is another node
+  pub stays-sound : sound n ≡ true → (s ≡ n .me → ⊥) → sound (probed n slots s echo) ≡ true
 
--- and of pings and flags these alone change: a ping sent the subject's ping, a pong its ping and flag, a tick flags
-pub record ProbesChange (n : Node) : Type 0 where
-  pub ping : (slots : List ℕ) (s : ℕ) → PingsOnly n (probed n slots s Ping) × OthersKept s n (probed n slots s Ping)
-  pub pong : (slots : List ℕ) (s : ℕ) → OthersKept s n (probed n slots s Pong)
-  pub tick : (reports : List ℕ) → FlagsOnly n (ticked n reports)
+-- a tick
+pub record TickLaws (n : Node) (reports : List ℕ) : Type 0 where
+  -- nothing but flags changes
+  pub flags : FlagsOnly n (ticked n reports)
+  -- each node of the roster gets the flag that the rules give it by itself, whatever the order of the nodes
+  pub each : sound n ≡ true → (k : ℕ) → k < n .size → recordAt (ticked n reports) k .flag ≡ tickFlag n reports k
+  -- a sound state stays sound
+  pub stays-sound : sound n ≡ true → sound (ticked n reports) ≡ true

@@ -39,7 +39,7 @@ use Rattle.refusals.specs.Refusals.{isBeyond, frameRefusals, refusals, turnsAwa
 use Rattle.refusals.proofs.Admitted.{Admitted, admitted, all-turn-away}
 use Rattle.failure.specs.Failure.{stamp, lookedAt}
 use Rattle.probes.specs.Probes.{afterProbe, probed}
-use Rattle.probes.proofs.Keeps.{probes-change}
+use Rattle.probes.proofs.Keeps.{ticked-flags}
 use Rattle.probes.proofs.Ticks.{tick-each}
 use Rattle.reports.specs.Reports.{stored, reported, failed}
 use Rattle.heartbeats.specs.Heartbeats.{heardOf, withSender, tied, heartbeat}
@@ -143,7 +143,7 @@ module _ (n : Node) (slots reports bitmap : List ℕ) (h : Header) where
   tick-changes a =
       let s = a .node-sound in
       record {
-        flags = probes-change later .tick reports;
+        flags = ticked-flags later reports;
         each = λ k l. tick-each later reports k l (omega (arith, l, all-records n s, few-nodes n s));
         tables = record { slots-kept = refl; reports-kept = refl };
       }

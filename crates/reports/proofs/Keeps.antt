@@ -1,4 +1,4 @@
--- What reports and fail frames leave as it was: `reports-keep` and `reports-change`.
+-- What reports and fail frames leave as it was.
 use mathlib.Core.Path.{refl}
 use mathlib.Core.List.{List}
 use Prim.Native.Nat.{ℕ}
@@ -8,36 +8,32 @@ use Rattle.state.specs.declared.Node.{Node}
 use Rattle.state.specs.declared.Verdict.{Verdict}
 use Rattle.state.specs.declared.Verdict.the-variants as verdict
 use Rattle.failure.specs.Failure.{reportAt, stamp}
-use Rattle.failure.specs.Keeps.{FlagsOnly, OthersKept, EntriesKept}
+use Rattle.failure.specs.Keeps.{Kept, FlagsOnly, OthersKept, EntriesKept}
 use Rattle.failure.proofs.Keeps.{flags-same, flags-kept, flag-set, others-same, others-one, entry-set, looked-flags, looked-others}
 use Rattle.reports.specs.Reports.{stored, reported, failFlag, failed}
-use Rattle.reports.specs.Keeps.{ReportsKeep, ReportsChange}
 
-reported-node : (n : Node) (reports : List ℕ) (reporter s : ℕ) (v : Verdict) → FlagsOnly n (reported n reports reporter s v .node) × OthersKept s n (reported n reports reporter s v .node)
+pub reported-node : (n : Node) (reports : List ℕ) (reporter s : ℕ) (v : Verdict) → FlagsOnly n (reported n reports reporter s v .node) × OthersKept s n (reported n reports reporter s v .node)
 unfolding reported stored
 reported-node n reports reporter s verdict.Fine = (flags-same n, others-same s n)
 reported-node n reports reporter s verdict.Pfail = (looked-flags (masters n) _ s n, looked-others (masters n) _ s n)
 reported-node n reports reporter s verdict.Fail = (looked-flags (masters n) _ s n, looked-others (masters n) _ s n)
 
-reported-entry : (n : Node) (reports : List ℕ) (reporter s : ℕ) (v : Verdict) → EntriesKept (reportAt s reporter) reports (reported n reports reporter s v .reports)
+pub reported-entry : (n : Node) (reports : List ℕ) (reporter s : ℕ) (v : Verdict) → EntriesKept (reportAt s reporter) reports (reported n reports reporter s v .reports)
 unfolding reported stored
 reported-entry n reports reporter s verdict.Fine = record { long = refl; others = λ j d. refl }
 reported-entry n reports reporter s verdict.Pfail = entry-set reports (reportAt s reporter) (stamp (n .clock))
 reported-entry n reports reporter s verdict.Fail = entry-set reports (reportAt s reporter) (stamp (n .clock))
 
-failed-flags : (n : Node) (s : ℕ) → FlagsOnly n (failed n s)
+pub failed-flags : (n : Node) (s : ℕ) → FlagsOnly n (failed n s)
 unfolding failed
 failed-flags n s = flag-set n s (failFlag (n .clock) (recordAt n s .flag))
 
-failed-others : (n : Node) (s : ℕ) → OthersKept s n (failed n s)
+pub failed-others : (n : Node) (s : ℕ) → OthersKept s n (failed n s)
 unfolding failed
 failed-others n s = others-one n s (withFlag (failFlag (n .clock) (recordAt n s .flag)) (recordAt n s))
 
-pub reports-keep : (n : Node) → ReportsKeep n
-reports-keep n = record {
-  report = λ reports reporter s v. flags-kept n (reported n reports reporter s v .node) (reported-node n reports reporter s v .0);
-  fail = λ s. flags-kept n (failed n s) (failed-flags n s);
-}
+pub reported-kept : (n : Node) (reports : List ℕ) (reporter s : ℕ) (v : Verdict) → Kept n (reported n reports reporter s v .node)
+reported-kept n reports reporter s v = flags-kept n (reported n reports reporter s v .node) (reported-node n reports reporter s v .0)
 
-pub reports-change : (n : Node) → ReportsChange n
-reports-change n = record { report = reported-node n; entry = reported-entry n; fail = λ s. (failed-flags n s, failed-others n s) }
+pub failed-kept : (n : Node) (s : ℕ) → Kept n (failed n s)
+failed-kept n s = flags-kept n (failed n s) (failed-flags n s)

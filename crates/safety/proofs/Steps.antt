@@ -42,8 +42,8 @@ use Rattle.refusals.specs.Refusals.{isUnlisted, namesThisNode, frameRefusals, r
 use Rattle.refusals.proofs.Admitted.{admitted, arrives}
 use Rattle.failure.specs.Keeps.{Kept}
 use Rattle.failure.proofs.Keeps.{me-kept, master-kept}
-use Rattle.probes.proofs.Keeps.{probes-keep}
-use Rattle.reports.proofs.Keeps.{reports-keep}
+use Rattle.probes.proofs.Keeps.{probed-kept, ticked-kept}
+use Rattle.reports.proofs.Keeps.{reported-kept, failed-kept}
 use Rattle.heartbeats.specs.Heartbeats.{heartbeat}
 use Rattle.heartbeats.proofs.Frame.{heartbeat-keeps, heartbeat-lists}
 use Rattle.votes.specs.Votes as votes
@@ -52,10 +52,11 @@ use Rattle.votes.proofs.Steps.{request-cases}
 use Rattle.votes.proofs.Laws.{vote-keeps}
 use Rattle.openings.specs.Openings.{opens}
 use Rattle.openings.proofs.Steps.{open-cases}
-use Rattle.openings.proofs.Laws.{NewElection, opening-new, opening-keeps, opening-voted}
+use Rattle.openings.specs.NewElection.{NewElection}
+use Rattle.openings.proofs.Laws.{opening-new, opening-keeps, opening-voted}
 use Rattle.acks.specs.Acks.{acked, promoted}
+use Rattle.acks.specs.Counts as acks
 use Rattle.acks.proofs.Steps.{ack-cases}
-use Rattle.acks.proofs.Steps as acks
 use Rattle.acks.proofs.Laws.{ack-keeps, won-most}
 use Rattle.node.specs.Step.{onKind, turnedAway, takenIn, onFrame}
 use Rattle.node.specs.Calls.{Tables, Call, frame, opening, setting, clearing, outcome}
@@ -208,9 +209,9 @@ module _ (n : Node) where
       go true e = inr refl
       go false e = inl (eqb-true k voter e)
 
-  hears : (slots : List ℕ) (voter candidate epoch opened : ℕ) (voters heard : NodeSet) → acks.Hears n slots voter candidate epoch opened voters heard
+  hears : (voter candidate epoch opened : ℕ) (voters heard : NodeSet) → acks.Hears n voter candidate epoch opened voters heard
       → Hears voter epoch (pollOf (n .election)) (has voters) (has (added heard voter))
-  hears slots voter candidate epoch opened voters heard h = record { before = has heard; runs = ap pollOf (h .running); voter = h .voter-in; more = one-more heard voters voter (h .voter-in) }
+  hears voter candidate epoch opened voters heard h = record { before = has heard; runs = ap pollOf (h .running); voter = h .voter-in; more = one-more heard voters voter (h .voter-in) }
 
   ack-good : (slots : List ℕ) (h : Header) (voter candidate : ℕ) → sound n ≡ true → Shown h (Ack voter candidate) (acked n slots voter candidate (h .epoch) .outcome)
   unfolding withElection withRecords promoted
@@ -222,7 +223,7 @@ module _ (n : Node) where
         moves = record {
           set = has voters;
           heard = has (added heard voter);
-          hears = hears slots voter candidate (h .epoch) opened voters heard w;
+          hears = hears voter candidate (h .epoch) opened voters heard w;
           poll = refl;
           vote = refl;
           masters = others _ k;
@@ -233,8 +234,8 @@ module _ (n : Node) where
         moves = record {
           set = has voters;
           heard = has (added heard voter);
-          hears = hears slots voter candidate (h .epoch) opened voters heard w;
-          most = won-most n slots voter candidate (h .epoch) opened voters heard s w m;
+          hears = hears voter candidate (h .epoch) opened voters heard w;
+          most = won-most n voter candidate (h .epoch) opened voters heard s w m;
           poll = refl;
           vote = refl;
           masters = others _ k;
@@ -245,12 +246,12 @@ module _ (n : Node) where
   kind-good : (slots reports bitmap : List ℕ) (h : Header) (k : Kind) → sound n ≡ true → isUnlisted (n .size) k ≡ false → namesThisNode (n .me) k ≡ false → Shown h k (onKind n slots reports bitmap h k .outcome)
   unfolding onKind
   kind-good slots reports bitmap h (Heartbeat sender role) s l d = heartbeat-good slots bitmap h sender role s (sender-listed (n .size) sender role l) (sender-another (n .me) sender role d)
-  kind-good slots reports bitmap h (Report reporter subject verdict) s l d = rests n _ (failure-alike n _ (reports-keep n .report reports reporter subject verdict))
-  kind-good slots reports bitmap h (Fail sender subject) s l d = rests n _ (failure-alike n _ (reports-keep n .fail subject))
+  kind-good slots reports bitmap h (Report reporter subject verdict) s l d = rests n _ (failure-alike n _ (reported-kept n reports reporter subject verdict))
+  kind-good slots reports bitmap h (Fail sender subject) s l d = rests n _ (failure-alike n _ (failed-kept n subject))
   kind-good slots reports bitmap h (Request candidate) s l d = request-good slots bitmap h candidate
   kind-good slots reports bitmap h (Ack voter candidate) s l d = ack-good slots h voter candidate s
-  kind-good slots reports bitmap h (Probe subject echo) s l d = rests n _ (failure-alike n _ (probes-keep n .probe slots subject echo))
-  kind-good slots reports bitmap h Tick s l d = rests n _ (failure-alike n _ (probes-keep n .tick reports))
+  kind-good slots reports bitmap h (Probe subject echo) s l d = rests n _ (failure-alike n _ (probed-kept n slots subject echo))
+  kind-good slots reports bitmap h Tick s l d = rests n _ (failure-alike n _ (ticked-kept n reports))
 
 -- ---- a frame's line
 

@@ -1,4 +1,4 @@
 pub mod Steps
 pub mod Exactly
-pub mod Laws
 pub mod Kept
+pub mod Laws
