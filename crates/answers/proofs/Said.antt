@@ -5,128 +5,93 @@ use Prim.Native.Nat.{ℕ}
 use lib.ListN.{getD}
 use Rattle.answers.specs.Answers.{Values, no-values, counts, at-slot, Said, said, SaidSettles}
 use Rattle.answers.specs.declared.Answer.{Answer}
-use Rattle.answers.specs.declared.Answer.the-variants.{
-  Done,
-  Heard,
-  WrongLength,
-  NotAFrame,
-  UnknownNode,
-  BeforeClock,
-  OutOfBounds,
-  OwnNumber,
-  Unsound,
-  FollowsItself,
-  AtTheTop,
-  Granted,
-  NotMaster,
-  StaleEpoch,
-  AlreadyVoted,
-  NoListedMaster,
-  MasterNotFailed,
-  VotedLately,
-  Outdated,
-  MarksFull,
-  NoSuchSlot,
-  NotMarked,
-  WrongSide,
-  NotReplica,
-  OwnMasterNotFailed,
-  OwnMasterEmpty,
-  ElectionYoung,
-  Won,
-  NoElection,
-  OtherCandidate,
-  OtherEpoch,
-  NoVoter,
-  AckLate,
-  AckRepeated,
-}
+use Rattle.answers.specs.declared.Answer.the-variants as answer
 
 -- the answers without values, each at its number; a number that no such answer has stands as Done
 abbrev plainAnswers : List Answer
 plainAnswers =
-    Done
-    ∷ WrongLength
-    ∷ NotAFrame
-    ∷ UnknownNode
-    ∷ BeforeClock
-    ∷ OutOfBounds
-    ∷ OwnNumber
-    ∷ Unsound
-    ∷ FollowsItself
-    ∷ AtTheTop
-    ∷ Granted
-    ∷ NotMaster
-    ∷ StaleEpoch
-    ∷ AlreadyVoted
-    ∷ NoListedMaster
-    ∷ MasterNotFailed
-    ∷ VotedLately
-    ∷ Done
-    ∷ Done
-    ∷ Done
-    ∷ MarksFull
-    ∷ NoSuchSlot
-    ∷ NotMarked
-    ∷ WrongSide
-    ∷ NotReplica
-    ∷ OwnMasterNotFailed
-    ∷ OwnMasterEmpty
-    ∷ Done
-    ∷ ElectionYoung
-    ∷ Done
-    ∷ Won
-    ∷ NoElection
-    ∷ OtherCandidate
-    ∷ OtherEpoch
-    ∷ NoVoter
-    ∷ AckLate
-    ∷ AckRepeated
+    answer.Done
+    ∷ answer.WrongLength
+    ∷ answer.NotAFrame
+    ∷ answer.UnknownNode
+    ∷ answer.BeforeClock
+    ∷ answer.OutOfBounds
+    ∷ answer.OwnNumber
+    ∷ answer.Unsound
+    ∷ answer.FollowsItself
+    ∷ answer.AtTheTop
+    ∷ answer.Granted
+    ∷ answer.NotMaster
+    ∷ answer.StaleEpoch
+    ∷ answer.AlreadyVoted
+    ∷ answer.NoListedMaster
+    ∷ answer.MasterNotFailed
+    ∷ answer.VotedLately
+    ∷ answer.Done
+    ∷ answer.Done
+    ∷ answer.Done
+    ∷ answer.MarksFull
+    ∷ answer.NoSuchSlot
+    ∷ answer.NotMarked
+    ∷ answer.WrongSide
+    ∷ answer.NotReplica
+    ∷ answer.OwnMasterNotFailed
+    ∷ answer.OwnMasterEmpty
+    ∷ answer.Done
+    ∷ answer.ElectionYoung
+    ∷ answer.Done
+    ∷ answer.Won
+    ∷ answer.NoElection
+    ∷ answer.OtherCandidate
+    ∷ answer.OtherEpoch
+    ∷ answer.NoVoter
+    ∷ answer.AckLate
+    ∷ answer.AckRepeated
     ∷ []
 
 abbrev answerOf : Values → ℕ → Answer
-answerOf no-values k = getD plainAnswers k Done
-answerOf (counts bound rebound stale) k = Heard (record { bound = bound; rebound = rebound; stale = stale })
-answerOf (at-slot s) k = Outdated s
+answerOf no-values k = getD plainAnswers k answer.Done
+answerOf (counts bound rebound stale) k = answer.Heard (record { bound = bound; rebound = rebound; stale = stale })
+answerOf (at-slot s) k = answer.Outdated s
 
 abbrev read : Said → Answer
 read s = answerOf (s .values) (s .number)
 
 read-said : (a : Answer) → read (said a) ≡ a
-read-said Done = refl
-read-said (Heard tally) = refl
-read-said WrongLength = refl
-read-said NotAFrame = refl
-read-said UnknownNode = refl
-read-said BeforeClock = refl
-read-said OutOfBounds = refl
-read-said OwnNumber = refl
-read-said Unsound = refl
-read-said FollowsItself = refl
-read-said AtTheTop = refl
-read-said Granted = refl
-read-said NotMaster = refl
-read-said StaleEpoch = refl
-read-said AlreadyVoted = refl
-read-said NoListedMaster = refl
-read-said MasterNotFailed = refl
-read-said VotedLately = refl
-read-said (Outdated s) = refl
-read-said MarksFull = refl
-read-said NoSuchSlot = refl
-read-said NotMarked = refl
-read-said WrongSide = refl
-read-said NotReplica = refl
-read-said OwnMasterNotFailed = refl
-read-said OwnMasterEmpty = refl
-read-said ElectionYoung = refl
-read-said Won = refl
-read-said NoElection = refl
-read-said OtherCandidate = refl
-read-said OtherEpoch = refl
-read-said NoVoter = refl
-read-said AckLate = refl
-read-said AckRepeated = refl
+read-said answer.Done = refl
+read-said (answer.Heard tally) = refl
+read-said answer.WrongLength = refl
+read-said answer.NotAFrame = refl
+read-said answer.UnknownNode = refl
+read-said answer.BeforeClock = refl
+read-said answer.OutOfBounds = refl
+read-said answer.OwnNumber = refl
+read-said answer.Unsound = refl
+read-said answer.FollowsItself = refl
+read-said answer.AtTheTop = refl
+read-said answer.Granted = refl
+read-said answer.NotMaster = refl
+read-said answer.StaleEpoch = refl
+read-said answer.AlreadyVoted = refl
+read-said answer.NoListedMaster = refl
+read-said answer.MasterNotFailed = refl
+read-said answer.VotedLately = refl
+read-said (answer.Outdated s) = refl
+read-said answer.MarksFull = refl
+read-said answer.NoSuchSlot = refl
+read-said answer.NotMarked = refl
+read-said answer.WrongSide = refl
+read-said answer.NotReplica = refl
+read-said answer.OwnMasterNotFailed = refl
+read-said answer.OwnMasterEmpty = refl
+read-said answer.ElectionYoung = refl
+read-said answer.Won = refl
+read-said answer.NoElection = refl
+read-said answer.OtherCandidate = refl
+read-said answer.OtherEpoch = refl
+read-said answer.NoVoter = refl
+read-said answer.AckLate = refl
+read-said answer.AckRepeated = refl
 
 pub said-settles : SaidSettles
 said-settles a b e = sym (read-said a) ∙ ap read e ∙ read-said b

@@ -2,19 +2,19 @@
 use mathlib.Core.Path.{_≡_, refl, sym, _∙_}
 use mathlib.Core.Bool.{Bool, true, false, cond, not}
 use mathlib.Core.List.{List, [], _∷_}
-use Prim.Native.Nat.{ℕ, suc, _+_, _≤_, _<_}
-use native.Mathlib.Nat.{add-zero, zero-add, add-suc, suc-add}
+use Prim.Native.Nat.{ℕ, _≤_, _<_}
+use native.Mathlib.Nat.{zero-add}
 use native.Mathlib.Omega.{arith}
 use lib.Dec.{eqb, ltb}
 use lib.ListN.{length, getD}
 use borrow.Author.Tests.{lt-ltb, le-ltb, ltb-true, ltb-false, eq-eqb, ne-eqb}
-use Rattle.tables.specs.Lists.{countFrom, countAt}
+use Rattle.tables.specs.Lists.{countAt}
 use Rattle.tables.specs.Sets.{claimed}
 use Rattle.ownership.specs.Claim.{Claimant, known, fate, fateAt, entryAfter, isBound, isRebound, claim}
 use Rattle.ownership.specs.Owners.{ExactlyWhen, isOwner, isUnowned, changedFrom, ClaimLaws}
 use Rattle.ownership.specs.declared.Fate.{Fate}
 use Rattle.ownership.specs.declared.Fate.the-variants.{Bound, Rebound, Stale, Stays}
-use Rattle.tables.proofs.Walks.{length-mapped, mapped-at}
+use Rattle.tables.proofs.Walks.{length-mapped, mapped-at, counts-agree}
 
 -- ---- the table by its places
 
@@ -90,14 +90,6 @@ module _ (c : Claimant) (m slots : List ℕ) where
         by false t e l g = absurd (another (sym (kept (λ q. never (sym q ∙ e))) ∙ g))
 
 -- ---- the counts: how many entries changed, from unowned and from another owner
-
--- two tests that agree at every place count the same
-counts-agree : {A : Type 0} (p q : ℕ → A → Bool) (d : A) (i : ℕ) (xs : List A) → ((k : ℕ) → k < length xs → p (i + k) (getD xs k d) ≡ q (i + k) (getD xs k d)) → countFrom p i xs ≡ countFrom q i xs
-unfolding countFrom
-counts-agree p q d i [] f = refl
-counts-agree p q d i (x ∷ xs) f =
-    let z : p i x ≡ q i x = rw (add-zero i) at (f 0 (omega arith)) in
-    rw (z, counts-agree p q d (suc i) xs (λ k h. rw (suc-add i k, ← add-suc i k) (f (suc k) (omega arith))))
 
 -- what stays as it was has not changed
 unchanged : (b : Bool) (x : ℕ) → false ≡ cond b (not (eqb x x)) false

@@ -9,8 +9,7 @@ use borrow.Author.Tests.{eqb-false, ltb-true, le-ltb}
 use Rattle.tables.specs.Checks.{allOf, anyOf}
 use Rattle.tables.specs.Lists.{mapAt, firstAt}
 use Rattle.tables.specs.Sets.{claimed}
-use Rattle.tables.specs.declared.Found.the-variants.{Nothing}
-use Rattle.tables.proofs.Walks.{map-kept, first-none}
+use Rattle.tables.proofs.Walks.{map-kept}
 use Rattle.state.specs.Node.{recordAt, listed}
 use Rattle.state.specs.Changes.{withRecords}
 use Rattle.state.specs.declared.Node.{Node}

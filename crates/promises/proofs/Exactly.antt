@@ -1,19 +1,23 @@
--- A line is answered 10 exactly when it is a request whose conditions hold, and a slot passes exactly when the frame beats its owner.
+-- A line is answered 10 exactly when it is a request whose conditions hold, a slot passes exactly when the frame beats its owner, and a heartbeat's answer counts what changed.
 use mathlib.Core.Path.{_≡_, refl, sym, ap, subst, _∙_}
-use mathlib.Core.Bool.{Bool, true, false}
+use mathlib.Core.Bool.{Bool, true, false, not}
 use mathlib.Core.List.{List, [], _∷_}
 use Prim.Native.Nat.{ℕ, _≤_, _<_}
+use native.Mathlib.Nat.{zero-add}
 use native.Mathlib.Omega.{arith}
 use lib.Dec.{eqb, leb}
 use lib.ListN.{length, getD}
-use borrow.Author.Tests.{eqb-true, leb-true}
+use borrow.Author.Tests.{eqb-true, eq-eqb, leb-true}
 use Rattle.tables.specs.Sizes.{slotCount, reportCount}
-use Rattle.tables.specs.Checks.{checked}
+use Rattle.tables.specs.Checks.{checked, allOf}
+use Rattle.tables.specs.Lists.{firstAt}
 use Rattle.tables.proofs.Checks.{part}
-use Rattle.answers.specs.Answers.{number}
+use Rattle.tables.proofs.Walks.{counts-agree, count-none, first-none}
+use Rattle.answers.specs.Answers.{counts, said, number}
 use Rattle.answers.specs.declared.Answer.{Answer}
 use Rattle.answers.specs.declared.Answer.the-variants.{Granted}
 use Rattle.answers.proofs.Checks.{by-check, past, testFor}
+use Rattle.state.specs.Node.{listed}
 use Rattle.state.specs.Changes.{withRecords, withClock, withCurrent, arrived}
 use Rattle.state.specs.Outcomes.{Slotted, Stepped}
 use Rattle.state.specs.declared.Node.{Node}
@@ -31,7 +35,8 @@ use Rattle.refusals.specs.Refusals.{refusals, turnsAway}
 use Rattle.refusals.proofs.Admitted.{Admitted, admitted, passes, all-turn-away}
 use Rattle.records.specs.Known.{knownConfigs}
 use Rattle.ownership.specs.Claim.{claimant}
-use Rattle.ownership.proofs.Owners.{unowned-goes, unclaimed-stays}
+use Rattle.ownership.specs.Owners.{changedFrom}
+use Rattle.ownership.proofs.Owners.{unowned-goes, unclaimed-stays, claim-laws}
 use Rattle.heartbeats.specs.Heartbeats.{withSender, heartbeat}
 use Rattle.heartbeats.proofs.Frame.{slot-passes-exactly-when}
 use Rattle.votes.specs.Votes.{requested}
@@ -40,8 +45,10 @@ use Rattle.votes.proofs.Exactly.{granted-exactly}
 use Rattle.acks.specs.Acks.{acked}
 use Rattle.acks.proofs.Steps.{ack-cases}
 use Rattle.node.specs.Step.{slottedStep, onKind, turnedAway, takenIn, onFrame}
+use Rattle.promises.specs.Claims.{staleAt}
+use Rattle.promises.specs.Exactly.{answerTo, Reads, GrantableLine, GrantedExactly, SlotPassesExactly, UnownedGoesExactly, HeartbeatSays}
 use Rattle.promises.proofs.Sounds.{sender-listed}
-use Rattle.promises.specs.Exactly.{answerTo, Reads, GrantableLine, GrantedExactly, SlotPassesExactly, UnownedGoesExactly}
+use Rattle.promises.proofs.Claims.{claimantOf, stale-lowest}
 
 -- an answer that turns a line away is one of 1 to 8
 from-one : (a : Answer) → turnsAway a ≡ true → 1 ≤ number a
@@ -174,3 +181,44 @@ module _ (n : Node) (slots reports line : List ℕ) where
       let w : s < length slots = omega (arith, z .whole, l) in
       let e = ap (λ (x : Stepped). getD (x .slots) s 0) (z .step) in
       record { if = λ b. e ∙ unowned-goes c (bitmapOf line) slots s w o b; otherwise = λ b. e ∙ unclaimed-stays c (bitmapOf line) slots s w b }
+
+-- ---- what a heartbeat's answer says
+
+-- a table holds no entry that differs from itself
+none-changed : (such : ℕ → Bool) (slots : List ℕ) → changedFrom such slots slots ≡ 0
+none-changed such slots =
+    counts-agree (λ s o. allOf (such o ∷ not (eqb o (getD slots s 0)) ∷ [])) (λ s o. false) 0 0 slots (λ k h. rw (zero-add k) (same (such (getD slots k 0)) (getD slots k 0)))
+    ∙ count-none (λ (s o : ℕ). false) 0 slots (λ k x h g. refl)
+  where
+    same : (b : Bool) (x : ℕ) → allOf (b ∷ not (eqb x x) ∷ []) ≡ false
+    same true x = rw (eq-eqb x x refl)
+    same false x = refl
+
+abbrev Counted : Node → List ℕ → List ℕ → ℕ → Role → ℕ → Slotted → Type 0
+Counted n slots bitmap sender role config x =
+    said (x .outcome .answer) ≡ record {
+      number = 0;
+      values = counts (changedFrom (λ o. not (listed n o)) slots (x .slots)) (changedFrom (listed n) slots (x .slots)) (firstAt (staleAt n bitmap sender role config) slots);
+    }
+
+-- past the refusals: the claim's own counts, of a replica none
+says : (n : Node) (slots bitmap : List ℕ) (sender : ℕ) (role : Role) (config : ℕ) → sender < n .size → Counted n slots bitmap sender role config (heartbeat n slots bitmap sender role config)
+unfolding heartbeat withSender withRecords
+says n slots bitmap sender Master config l =
+    let laws = claim-laws (claimantOf n sender config) bitmap slots in
+    let b = laws .bound l in
+    let r = laws .rebound in
+    let s = stale-lowest n slots bitmap sender config in
+    λ i. record { number = 0; values = counts (b i) (r i) (s i) }
+says n slots bitmap sender (Replica m) config l =
+    let b = sym (none-changed (λ o. not (listed n o)) slots) in
+    let r = sym (none-changed (listed n) slots) in
+    let s = sym (first-none (λ (s o : ℕ). false) 0 slots (λ k x h g. refl)) in
+    λ i. record { number = 0; values = counts (b i) (r i) (s i) }
+
+pub heartbeat-says : (n : Node) (slots reports line : List ℕ) → HeartbeatSays n slots reports line
+unfolding withClock withCurrent
+heartbeat-says n slots reports line h sender role q a =
+    let z = line-taken n slots reports line h sender role q a in
+    let m = arrived (h .time) (h .epoch) n in
+    subst (λ (x : Stepped). Counted n slots (bitmapOf line) sender role (h .config) (record { outcome = x .outcome; slots = x .slots })) (sym (z .step)) (says m slots (bitmapOf line) sender role (h .config) (z .listed))

@@ -1,16 +1,18 @@
--- Demand 2 on lines: when a line is answered 10, and when a slot passes.
+-- Demand 2 on lines: when a line is answered 10, when a slot passes, and what a heartbeat's answer says of the slots.
 use mathlib.Core.Path.{_≡_}
-use mathlib.Core.Bool.{true, false}
+use mathlib.Core.Bool.{true, false, not}
 use mathlib.Core.List.{List}
 use Prim.Native.Nat.{ℕ, _≤_, _<_}
 use lib.ListN.{length, getD}
 use Rattle.tables.specs.Sizes.{slotCount}
+use Rattle.tables.specs.Lists.{firstAt}
 use Rattle.tables.specs.Sets.{claimed}
-use Rattle.answers.specs.Answers.{number}
+use Rattle.answers.specs.Answers.{counts, Said, said, number}
 use Rattle.answers.specs.declared.Check.the-variants.{Passed}
-use Rattle.state.specs.Node.{recordAt}
+use Rattle.state.specs.Node.{recordAt, listed}
 use Rattle.state.specs.Changes.{arrived}
 use Rattle.state.specs.declared.Node.{Node}
+use Rattle.state.specs.declared.Role.{Role}
 use Rattle.state.specs.declared.Role.the-variants.{Master}
 use Rattle.frames.specs.Frames.{frameOf, bitmapOf}
 use Rattle.frames.specs.declared.Header.{Header}
@@ -18,10 +20,16 @@ use Rattle.frames.specs.declared.Kind.{Kind}
 use Rattle.frames.specs.declared.Kind.the-variants.{Heartbeat, Request}
 use Rattle.frames.specs.declared.Decoded.the-variants.{Good}
 use Rattle.refusals.specs.Refusals.{refusal}
+use Rattle.ownership.specs.Owners.{changedFrom}
 use Rattle.votes.specs.Grants.{Grantable}
 use Rattle.node.specs.Step.{onFrame}
+use Rattle.promises.specs.Claims.{staleAt}
 
 module _ (n : Node) (slots reports line : List ℕ) where
+  -- what the line is answered, with its values, and the number alone
+  abbrev pub saidTo : Said
+  saidTo = said (onFrame n slots reports line .outcome .answer)
+
   abbrev pub answerTo : ℕ
   answerTo = number (onFrame n slots reports line .outcome .answer)
 
@@ -69,3 +77,14 @@ module _ (n : Node) (slots reports line : List ℕ) where
   UnownedGoesExactly =
       (h : Header) (sender : ℕ) → Reads h (Heartbeat sender Master) → answerTo ≡ 0
       → (s : ℕ) → s < slotCount → n .size ≤ getD slots s 0 → UnownedGoes sender s
+
+  -- A heartbeat that is not turned away is answered 0, with how many entries changed from unowned, how many from another
+  -- owner, and the lowest claimed slot at which the sender is stale. What an entry was is told by the table before.
+  abbrev pub HeartbeatSays : Type 0
+  HeartbeatSays =
+      (h : Header) (sender : ℕ) (role : Role) → Reads h (Heartbeat sender role) → answerTo ≡ 0
+      → let after = onFrame n slots reports line .slots in
+      saidTo ≡ record {
+        number = 0;
+        values = counts (changedFrom (λ o. not (listed n o)) slots after) (changedFrom (listed n) slots after) (firstAt (staleAt n (bitmapOf line) sender role (h .config)) slots);
+      }

@@ -81,19 +81,15 @@ mapped-at f i [] k d e h = absurd (not-suc-le-zero h)
 mapped-at f i (x ∷ l) zero d e h = rw add-zero
 mapped-at f i (x ∷ l) (suc k) d e h = mapped-at f (suc i) l k d e (le-of-suc-le-suc h) ∙ rw (suc-add i k, add-suc i k)
 
--- ---- a count by what changed
-
--- how many places of two lists pass a test of the old entry and the new one
-unfoldable pub changes : {A : Type 0} → (A → A → Bool) → List A → List A → ℕ
-changes p [] ys = 0
-changes p (x ∷ xs) [] = 0
-changes p (x ∷ xs) (y ∷ ys) = cond (p x y) (suc (changes p xs ys)) (changes p xs ys)
+-- ---- a count by its places
 
 -- two tests that agree at every place count the same
-pub counted : {A : Type 0} (p : ℕ → A → Bool) (g : A → A → Bool) (f : ℕ → A → A) → ((s : ℕ) (x : A) → p s x ≡ g x (f s x)) → (i : ℕ) (xs : List A) → countFrom p i xs ≡ changes g xs (mapFrom f i xs)
-unfolding countFrom changes mapFrom
-counted p g f h i [] = refl
-counted p g f h i (x ∷ xs) = rw (h i x, counted p g f h (suc i) xs)
+pub counts-agree : {A : Type 0} (p q : ℕ → A → Bool) (d : A) (i : ℕ) (xs : List A) → ((k : ℕ) → k < length xs → p (i + k) (getD xs k d) ≡ q (i + k) (getD xs k d)) → countFrom p i xs ≡ countFrom q i xs
+unfolding countFrom
+counts-agree p q d i [] f = refl
+counts-agree p q d i (x ∷ xs) f =
+    let z : p i x ≡ q i x = rw (add-zero i) at (f 0 (omega arith)) in
+    rw (z, counts-agree p q d (suc i) xs (λ k h. rw (suc-add i k, ← add-suc i k) (f (suc k) (omega arith))))
 
 -- ---- a search by its place
 
