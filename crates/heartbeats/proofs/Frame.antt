@@ -86,6 +86,16 @@ module _ (n : Node) (slots bitmap : List ℕ) (sender : ℕ) (config : ℕ) wher
       by true = refl
       by false = refl
 
+  -- there are as many records
+  pub heartbeat-room : (role : Role) → length (after role .records) ≡ length (n .records)
+  unfolding heartbeat withSender bumped withRecords withCurrent
+  heartbeat-room (Replica m) = length-set (n .records) sender _
+  heartbeat-room Master = by bumps
+    where
+      by : (b : Bool) → length (cond b (withNewEpoch heard) heard .records) ≡ length (n .records)
+      by true = length-set (heard .records) (n .me) _ ∙ length-set (n .records) sender _
+      by false = length-set (n .records) sender _
+
   -- a replica's heartbeat: the sender's role, and nothing else; no entry of the table
   pub replica-role-only : (m : ℕ) → after (Replica m) ≡ onRecord sender (withRole (Replica m)) n
   unfolding heartbeat withSender

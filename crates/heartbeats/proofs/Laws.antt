@@ -8,7 +8,7 @@ use Rattle.state.specs.declared.Node.{Node}
 use Rattle.state.specs.declared.Role.{Role}
 use Rattle.soundness.proofs.Facts.{all-records, few-nodes, me-listed}
 use Rattle.heartbeats.specs.Heard.{PastChecks, HeartbeatLaws, ReplicaLaws, MasterLaws}
-use Rattle.heartbeats.proofs.Frame.{heartbeat-lists, heartbeat-keeps, others-kept, replica-role-only, replica-claims-nothing, sender-record, slot-passes-exactly-when, master-current, own-record}
+use Rattle.heartbeats.proofs.Frame.{heartbeat-lists, heartbeat-keeps, heartbeat-room, others-kept, replica-role-only, replica-claims-nothing, sender-record, slot-passes-exactly-when, master-current, own-record}
 use Rattle.heartbeats.proofs.Sound.{heartbeat-sound}
 
 -- whoever is in the roster has a record
@@ -19,6 +19,7 @@ pub heartbeat-laws : (n : Node) (slots bitmap : List ℕ) (sender config : ℕ) 
 heartbeat-laws n slots bitmap sender config role = record {
   lists = λ p. heartbeat-lists n slots bitmap sender config role (p .listed) (few-nodes n (p .node-sound)) (all-records n (p .node-sound));
   rest = heartbeat-keeps n slots bitmap sender config role;
+  room = heartbeat-room n slots bitmap sender config role;
   others = others-kept n slots bitmap sender config role;
   stays-sound = λ p. heartbeat-sound n slots bitmap sender role config (p .node-sound) (p .another) (p .follows) (p .within);
 }

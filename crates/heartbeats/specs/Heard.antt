@@ -46,6 +46,7 @@ module _ (n : Node) (slots bitmap : List ℕ) (sender config : ℕ) where
     pub lists : PastChecks n sender role config → (k : ℕ) → masterAt (after role) k ≡ cond (eqb k sender) (isMaster role) (masterAt n k)
     -- nothing changes but currentEpoch and two records, the sender's and this node's
     pub rest : after role ≡ withRecords (after role .records) (withCurrent (after role .current) n)
+    pub room : length (after role .records) ≡ length (n .records)
     pub others : (k : ℕ) → (k ≡ sender → ⊥) → (k ≡ n .me → ⊥) → recordAt (after role) k ≡ recordAt n k
     -- a sound state stays sound
     pub stays-sound : PastChecks n sender role config → sound (after role) ≡ true
