@@ -16,8 +16,8 @@ use Rattle.state.specs.Same.{Held, held, Same}
 use Rattle.state.specs.declared.Node.{Node}
 use Rattle.state.specs.declared.Record.{Record}
 use Rattle.state.specs.declared.Role.the-variants.{Master}
-use Rattle.soundness.specs.Sound.{sound}
-use Rattle.soundness.proofs.Alike.{same-sound}
+use Rattle.soundness.specs.Sound.{arraysWhole, sound}
+use Rattle.soundness.proofs.Alike as soundness
 
 -- its state, and how long its arrays are
 pub record Seen : Type 0 where
@@ -102,7 +102,8 @@ module _ (a b : Node) (e : Alike a b) where
   alike-same = ap (λ (s : Seen). s .held) e
 
   pub alike-sound : sound a ≡ sound b
-  alike-sound = same-sound a b alike-same (ap (λ (s : Seen). s .ids) e) (ap (λ (s : Seen). s .records) e) (ap (λ (s : Seen). s .marks) e)
+  unfolding arraysWhole
+  alike-sound = soundness.alike-sound a b alike-same (let i = ap (λ (s : Seen). s .ids) e in let r = ap (λ (s : Seen). s .records) e in let m = ap (λ (s : Seen). s .marks) e in rw (i, r, m))
 
   -- what can be told from what is seen is equal
   pub from-seen : {A : Type 0} (g : Seen → A) (f : Node → A) → ((n : Node) → g (seen n) ≡ f n) → f a ≡ f b

@@ -91,10 +91,14 @@ module _ (a b : Node) (e : Same a b) where
       let v = ap (λ (y : Held). y .voted) e in
       rw (whole, bounds-same, ids-same, records-same, x, slots-same, marks-same, own, v, current-is, me-is, size-is)
 
-pub same-sound : (a b : Node) → SameSound a b
+-- the arrays of both are whole, or of neither
+pub alike-sound : (a b : Node) → Same a b → arraysWhole a ≡ arraysWhole b → sound a ≡ sound b
 unfolding sound
-same-sound a b wa wb e = by (ltb (a .me) (a .size)) refl
+alike-sound a b e whole = by (ltb (a .me) (a .size)) refl
   where
     by : (t : Bool) → t ≡ ltb (a .me) (a .size) → allOf (soundChecks a) ≡ allOf (soundChecks b)
-    by true f = ap allOf (checks-same a b e (wa ∙ sym wb) (ltb-true (a .me) (a .size) (sym f)))
+    by true f = ap allOf (checks-same a b e whole (ltb-true (a .me) (a .size) (sym f)))
     by false f = sym (fails 3 (soundChecks a) (sym f)) ∙ fails 3 (soundChecks b) (sym (f ∙ ap₂ ltb (me-is a b e) (size-is a b e)))
+
+pub same-sound : (a b : Node) → SameSound a b
+same-sound a b wa wb e = alike-sound a b e (wa ∙ sym wb)
