@@ -1,7 +1,7 @@
--- `exports::kind_head` meets its contract.
+-- `digests::kind_head` meets its contract.
 use borrow.Author.Needs.{needs}
-use Rattle.exports.proofs.kind_head.Statement.{statement}
-use Rattle.exports.proofs.kind_head.Tie as tie
+use Rattle.digests.proofs.kind_head.Statement.{statement}
+use Rattle.digests.proofs.kind_head.Tie as tie
 
 enum-known-kind : tie.Need-enum-known-kind
 enum-known-kind c = search needs

@@ -1,7 +1,7 @@
--- `exports::mixed` meets its contract.
+-- `digests::mixed` meets its contract.
 use borrow.Author.Needs.{needs}
-use Rattle.exports.proofs.mixed.Statement.{statement}
-use Rattle.exports.proofs.mixed.Tie as tie
+use Rattle.digests.proofs.mixed.Statement.{statement}
+use Rattle.digests.proofs.mixed.Tie as tie
 
 wide-requires : tie.Need-wide-requires
 wide-requires c κs = search needs

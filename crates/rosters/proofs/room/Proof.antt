@@ -1,8 +1,8 @@
--- `exports::room` meets its contract.
+-- `rosters::room` meets its contract.
 use borrow.Author.Needs.{needs}
 use borrow.Author.Tests.{le-ltb, lt-ltb}
-use Rattle.exports.proofs.room.Statement.{statement}
-use Rattle.exports.proofs.room.Tie as tie
+use Rattle.rosters.proofs.room.Statement.{statement}
+use Rattle.rosters.proofs.room.Tie as tie
 
 returns : tie.Need-returns
 returns c = (simp (lt-ltb _ _ (c .if1 .taken)), search needs)

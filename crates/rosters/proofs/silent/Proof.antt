@@ -1,7 +1,7 @@
--- `exports::silent`: both changes, the flag first.
+-- `rosters::silent`: both changes, the flag first.
 use borrow.Author.Needs.{needs}
-use Rattle.exports.proofs.silent.Statement.{statement}
-use Rattle.exports.proofs.silent.Tie as tie
+use Rattle.rosters.proofs.silent.Statement.{statement}
+use Rattle.rosters.proofs.silent.Tie as tie
 
 with-flag-requires : tie.Need-with-flag-requires
 with-flag-requires c κs = search needs

@@ -1,14 +1,14 @@
--- `exports::silence` meets its contract: so many nodes below k + 2 are silent.
+-- `rosters::silence` meets its contract: so many nodes below k + 2 are silent.
 use mathlib.Core.Path.{_≡_, refl, sym, ap, _∙_}
 use Prim.Native.Nat.{ℕ, _-_, _≤_}
 use native.Mathlib.Omega.{arith}
 use Rattle.tables.specs.Below.{inTurn}
 use Rattle.tables.proofs.Below.{in-turn-more}
 use Rattle.state.specs.Changes.{withRecords}
-use Rattle.exports.specs.Rosters.{silencedNext, silenced, room}
+use Rattle.rosters.specs.Rosters.{silencedNext, silenced, room}
 use borrow.Author.Needs.{needs}
-use Rattle.exports.proofs.silence.Statement.{statement}
-use Rattle.exports.proofs.silence.Tie as tie
+use Rattle.rosters.proofs.silence.Statement.{statement}
+use Rattle.rosters.proofs.silence.Tie as tie
 
 abbrev Inv-loop : tie.InvT-loop
 Inv-loop count end next₀ k₀ next k = (k ≤ end) × (end ≤ 62) × (next ≡ inTurn silencedNext k next₀)

@@ -1,7 +1,7 @@
--- `exports::place` meets its contract.
+-- `digests::place` meets its contract.
 use borrow.Author.Needs.{needs}
-use Rattle.exports.proofs.place.Statement.{statement}
-use Rattle.exports.proofs.place.Tie as tie
+use Rattle.digests.proofs.place.Statement.{statement}
+use Rattle.digests.proofs.place.Tie as tie
 
 enum-told : tie.Need-enum-told
 enum-told c = search needs

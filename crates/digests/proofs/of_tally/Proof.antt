@@ -1,12 +1,12 @@
--- `exports::digest` meets its contract.
+-- `digests::of_tally` meets its contract.
 use Prim.Native.Nat.{ℕ, _<_}
 use native.Mathlib.Omega.{arith}
 use Rattle.tables.specs.declared.Found.{Found}
 use Rattle.tables.specs.declared.Found.the-variants.{Nothing, At}
-use Rattle.exports.specs.Digest.{place}
+use Rattle.digests.specs.Digest.{place}
 use borrow.Author.Needs.{needs}
-use Rattle.exports.proofs.digest.Statement.{statement}
-use Rattle.exports.proofs.digest.Tie as tie
+use Rattle.digests.proofs.of_tally.Statement.{statement}
+use Rattle.digests.proofs.of_tally.Tie as tie
 
 place-small : (z : Found) → place z < 65536
 place-small Nothing = omega arith
@@ -30,6 +30,6 @@ add-result-2 c = rw (c .place .ensures) (omega (arith, place-small (c .before .b
 returns : tie.Need-returns
 returns c = search needs
 
-pub digest-spec : {M : Type 1} → statement M
-digest-spec =
+pub of-tally-spec : {M : Type 1} → statement M
+of-tally-spec =
     tie.close (tie.spec mul-result add-result place-requires mul-result-2 add-result-2 returns)

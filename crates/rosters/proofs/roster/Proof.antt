@@ -1,8 +1,8 @@
--- `exports::roster` meets its contract.
-use Rattle.exports.specs.Rosters.{roster}
+-- `rosters::roster` meets its contract.
+use Rattle.rosters.specs.Rosters.{roster}
 use borrow.Author.Needs.{needs}
-use Rattle.exports.proofs.roster.Statement.{statement}
-use Rattle.exports.proofs.roster.Tie as tie
+use Rattle.rosters.proofs.roster.Statement.{statement}
+use Rattle.rosters.proofs.roster.Tie as tie
 
 array-set-from-roles : tie.Need-array-set-from-roles
 array-set-from-roles c = search needs

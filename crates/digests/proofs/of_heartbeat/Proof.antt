@@ -1,7 +1,7 @@
--- `exports::of_heartbeat` meets its contract.
+-- `digests::of_heartbeat` meets its contract.
 use borrow.Author.Needs.{needs}
-use Rattle.exports.proofs.of_heartbeat.Statement.{statement}
-use Rattle.exports.proofs.of_heartbeat.Tie as tie
+use Rattle.digests.proofs.of_heartbeat.Statement.{statement}
+use Rattle.digests.proofs.of_heartbeat.Tie as tie
 
 enum-told : tie.Need-enum-told
 enum-told c = search needs
