@@ -38,7 +38,8 @@ use Rattle.votes.proofs.Steps.{request-cases}
 use Rattle.votes.proofs.Exactly.{granted-exactly}
 use Rattle.acks.specs.Acks.{acked}
 use Rattle.acks.proofs.Steps.{ack-cases}
-use Rattle.node.specs.Step.{onKind, turnedAway, takenIn, onFrame}
+use Rattle.kinds.specs.Kinds.{onKind}
+use Rattle.node.specs.Step.{turnedAway, takenIn, onFrame}
 use Rattle.promises.specs.Exactly.{answerTo, Reads, GrantableLine, GrantedExactly, SlotPassesExactly, UnownedGoesExactly}
 
 -- an answer that turns a line away is one of 1 to 8

@@ -1,8 +1,8 @@
--- `node::by_kind` meets its contract.
-use Rattle.node.specs.Step.{onKind}
+-- `kinds::by_kind` meets its contract.
+use Rattle.kinds.specs.Kinds.{onKind}
 use borrow.Author.Needs.{needs}
-use Rattle.node.proofs.by_kind.Statement.{statement}
-use Rattle.node.proofs.by_kind.Tie as tie
+use Rattle.kinds.proofs.by_kind.Statement.{statement}
+use Rattle.kinds.proofs.by_kind.Tie as tie
 
 enum-known-kind : tie.Need-enum-known-kind
 enum-known-kind c = search needs

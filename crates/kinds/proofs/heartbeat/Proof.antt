@@ -1,10 +1,10 @@
--- `node::heartbeat` meets its contract.
+-- `kinds::heartbeat` meets its contract.
 use mathlib.Core.Path.{sym, ap, _∙_}
 use lib.ListN.{length}
 use Rattle.frames.proofs.Claims.{bitmap-long}
 use borrow.Author.Needs.{needs}
-use Rattle.node.proofs.heartbeat.Statement.{statement}
-use Rattle.node.proofs.heartbeat.Tie as tie
+use Rattle.kinds.proofs.heartbeat.Statement.{statement}
+use Rattle.kinds.proofs.heartbeat.Tie as tie
 
 bitmap-requires : tie.Need-bitmap-requires
 bitmap-requires c κs = search needs
