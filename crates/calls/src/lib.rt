@@ -1,15 +1,9 @@
-// A line of a run's file, and the call that it says: docs/REPLAY.md. Numbers, ranges of slots, a claimed bitmap and the bytes
-// of a key are what the definitions say; that a line's words are looked at in their places is held to stored output.
+// A line of a run's file, and the call that it says, by a table of forms: docs/REPLAY.md. What a word says has its promise in
+// `words` and `arguments`; that a line's words are looked at in their places is held to stored output.
 ghost use mathlib.Core.Path.{_≡_};
-ghost use Rattle.tables.specs.Sizes.{slotCount};
-ghost use Prim.Native.Nat.{_+_, _*_, _≤_, _<_};
+ghost use Prim.Native.Nat.{_+_, _*_, _≤_};
 ghost use lib.ListN.{length};
-ghost use Rattle.lines.specs.Texts.{Text, puts};
-ghost use Rattle.hex.specs.Hex.{byteAt};
-ghost use Rattle.calls.specs.Words.{upTo, said, same};
-ghost use Rattle.calls.specs.Numbers.{between, capped, longer, value, leastOf, mostOf, numberOf, firstSlot, lastSlot, isRange, kept};
-ghost use Rattle.calls.specs.Bytes.{chosen, given, bit, nibble, digitOf, digitsBelow, keyBytes};
-use tables::Found;
+use words::Fit;
 
 // The forms of a line, a row of 56 bytes each. First what stands at each place, by a letter; the form's name stands at
 // place 0, and the last letter goes for all places from there on. Then the form as it is shown, up to a ~.
@@ -75,11 +69,6 @@ pub const ALL: u64 = 256;
 // The most words of a line.
 const WORDS: usize = 64;
 
-// Entries of a slot table, and the digits of a bitmap that claims slots of it.
-const ENTRIES: usize = tables::SLOTS as usize;
-
-const DIGITS: usize = ENTRIES / 4;
-
 // What a line says. A range, a frame's digits and a key are words of the line: see `word`.
 pub struct Call {
     pub form: u8,
@@ -89,31 +78,7 @@ pub struct Call {
     pub numbers: [u64; 8],
 }
 
-// Whether a word fits where it stands, and the number that it says.
-struct Fit {
-    right: bool,
-    value: u64,
-}
-
 // ---- words
-
-// Where a byte first stands, or the text's end.
-fn up_to(text: &[u8], byte: u8) -> usize
-    ensures { λ r. ⌜ (r ≡ upTo byte (now (text .entry))) × (r ≤ length (now (text .entry))) ⌝ }
-{
-    match tables::first_byte(text, byte) {
-        Found::Nothing => text.len(),
-        Found::At(k) => k,
-    }
-}
-
-// The line without its comment.
-fn said(line: &[u8]) -> &[u8]
-    ensures { λ r. ⌜ now r ≡ said (now (line .entry)) ⌝ }
-{
-    let end = up_to(line, b'#');
-    &line[..end]
-}
 
 // Where the next word starts, from a place on.
 fn word_start(text: &[u8], from: usize) -> usize
@@ -160,152 +125,7 @@ fn word_of(text: &[u8], i: usize) -> &[u8] {
 
 // Word i of a line.
 pub fn word(line: &[u8], i: usize) -> &[u8] {
-    word_of(said(line), i)
-}
-
-fn same(a: &[u8], b: &[u8]) -> bool
-    ensures { λ r. ⌜ r ≡ same (now (a .entry)) (now (b .entry)) ⌝ }
-{
-    let mut i: usize = 0;
-    while i < a.len() {
-        if i >= b.len() {
-            return false;
-        }
-        if a[i] != b[i] {
-            return false;
-        }
-        i += 1;
-    }
-    i == b.len()
-}
-
-// ---- numbers and ranges
-
-// The greatest number that is read; one more stands for all that are greater, and for what is no number.
-const MOST: u64 = 1000000000000000000;
-
-fn between(v: u64, low: u64, high: u64) -> bool
-    ensures { λ r. ⌜ r ≡ between low high v ⌝ }
-{
-    if v < low {
-        return false;
-    }
-    v <= high
-}
-
-fn capped(v: u64) -> u64
-    ensures { λ r. ⌜ (r ≡ capped v) × (r ≤ 1000000000000000001) ⌝ }
-{
-    if v > MOST {
-        return MOST + 1;
-    }
-    v
-}
-
-// A number with a character behind it.
-fn longer(v: u64, c: u8) -> u64
-    requires { ⌜ v ≤ 1000000000000000001 ⌝ }
-    ensures { λ r. ⌜ (r ≡ longer v c) × (r ≤ 1000000000000000001) ⌝ }
-{
-    if c < b'0' {
-        return MOST + 1;
-    }
-    if c > b'9' {
-        return MOST + 1;
-    }
-    capped(v * 10 + (c - b'0') as u64)
-}
-
-// What a word says as a number.
-fn value(word: &[u8]) -> u64
-    ensures { λ r. ⌜ (r ≡ value (now (word .entry))) × (r ≤ 1000000000000000001) ⌝ }
-{
-    if word.len() == 0 {
-        return MOST + 1;
-    }
-    let mut v: u64 = 0;
-    let mut i: usize = 0;
-    while i < word.len() {
-        v = longer(v, word[i]);
-        i += 1;
-    }
-    v
-}
-
-// The least and the greatest number of a kind.
-fn least(kind: u8) -> u64
-    ensures { λ r. ⌜ r ≡ leastOf kind ⌝ }
-{
-    if kind == b'z' {
-        return 1;
-    }
-    if kind == b'T' {
-        return 100;
-    }
-    0
-}
-
-fn most(kind: u8) -> u64
-    ensures { λ r. ⌜ r ≡ mostOf kind ⌝ }
-{
-    if kind == b'z' {
-        return 16;
-    }
-    if kind == b'T' {
-        return 600000;
-    }
-    if kind == b'o' {
-        return 65535;
-    }
-    if kind == b't' {
-        return MOST;
-    }
-    255
-}
-
-fn number(word: &[u8], kind: u8) -> Fit
-    ensures { λ r. ⌜ r ≡ numberOf (now (word .entry)) kind ⌝ }
-{
-    let value = value(word);
-    Fit {
-        right: between(value, least(kind), most(kind)),
-        value,
-    }
-}
-
-// Where a range begins and ends.
-pub fn first_slot(range: &[u8]) -> u64
-    ensures { λ r. ⌜ r ≡ firstSlot (now (range .entry)) ⌝ }
-{
-    let end = up_to(range, b'-');
-    value(&range[..end])
-}
-
-pub fn last_slot(range: &[u8]) -> u64
-    ensures { λ r. ⌜ r ≡ lastSlot (now (range .entry)) ⌝ }
-{
-    let dash = up_to(range, b'-');
-    if dash < range.len() {
-        let from = dash + 1;
-        return value(&range[from..]);
-    }
-    value(range)
-}
-
-fn is_range(word: &[u8]) -> bool
-    ensures { λ r. ⌜ r ≡ isRange (now (word .entry)) ⌝ }
-{
-    between(last_slot(word), first_slot(word), 16383)
-}
-
-// A time as a report's entry keeps it: one more, so that 0 is none.
-pub fn kept(time: u64) -> u64
-    ensures { λ r. ⌜ r ≡ kept time ⌝ }
-{
-    if time < MOST {
-        return time + 1;
-    }
-    MOST + 1
+    word_of(words::said(line), i)
 }
 
 // ---- a word by the kind of its place
@@ -319,7 +139,7 @@ fn literal(word: &[u8], kind: u8) -> bool {
     if kind < b'0' {
         return false;
     }
-    same(
+    words::same(
         word,
         word_of(
             b"of for to from claims asking present absent all",
@@ -333,7 +153,7 @@ fn whose(word: &[u8]) -> Fit {
     if literal(word, b'8') {
         return fitted(true, ALL);
     }
-    number(word, b'N')
+    words::number(word, b'N')
 }
 
 // `present` or `absent`.
@@ -346,7 +166,7 @@ fn presence(word: &[u8]) -> Fit {
 
 // Nobody follows itself.
 fn master(word: &[u8], node: u64) -> Fit {
-    let found = number(word, b'M');
+    let found = words::number(word, b'M');
     if found.value == node {
         return fitted(false, 0);
     }
@@ -365,12 +185,12 @@ fn fitting(word: &[u8], kind: u8, node: u64) -> Fit {
     match kind {
         b'.'..=b'5' => fitted(literal(word, kind), 1),
         b'M' => master(word, node),
-        b'R' | b'r' => fitted(is_range(word), 0),
+        b'R' | b'r' => fitted(words::is_range(word), 0),
         b'a' => whose(word),
         b'h' => fitted(is_hex(word), 0),
         b'p' => presence(word),
         b'w' => fitted(true, 0),
-        _ => number(word, kind),
+        _ => words::number(word, kind),
     }
 }
 
@@ -415,7 +235,7 @@ fn form_of(forms: &[u8], word: &[u8]) -> u8 {
             return COUNT;
         }
         let to = word_end(forms, from);
-        if same(word, &forms[from..to]) {
+        if words::same(word, &forms[from..to]) {
             return form;
         }
         form += 1;
@@ -481,7 +301,7 @@ pub fn read(line: &[u8]) -> Call {
 }
 
 fn read_by(forms: &[u8; SIZE], line: &[u8]) -> Call {
-    let text = said(line);
+    let text = words::said(line);
     let from = word_start(text, 0);
     let to = word_end(text, from);
     if from == to {
@@ -542,28 +362,7 @@ fn put_by(forms: &[u8; SIZE], out: &mut [u8], at: usize, form: u8) -> usize {
     end
 }
 
-// ---- what a line hands on
-
-// An entry of a table, or a value where its place is one of a range.
-fn chosen(old: u16, s: usize, first: u64, last: u64, x: u16) -> u16
-    ensures { λ r. ⌜ r ≡ chosen first last x s old ⌝ }
-{
-    if between(s as u64, first, last) {
-        return x;
-    }
-    old
-}
-
-// A value for the entries of a table from one place to another.
-pub fn give(table: &mut [u16], first: u64, last: u64, x: u16)
-    ensures { λ _. ⌜ now (table .exit) ≡ given first last x (now (table .entry)) ⌝ }
-{
-    let mut s: usize = 0;
-    while s < table.len() {
-        table[s] = chosen(table[s], s, first, last, x);
-        s += 1;
-    }
-}
+// ---- a frame
 
 // The slots that a line's ranges claim: words 4 and on.
 fn claims(text: &[u8], table: &mut [u16]) {
@@ -573,87 +372,19 @@ fn claims(text: &[u8], table: &mut [u16]) {
         if range.len() == 0 {
             return;
         }
-        give(table, first_slot(range), last_slot(range), 1);
+        arguments::give(table, words::first_slot(range), words::last_slot(range), 1);
         place += 1;
     }
 }
 
-fn bit(table: &[u16], s: usize) -> u8
-    ensures { λ r. ⌜ (r ≡ bit (now (table .entry)) s) × (r < 2) ⌝ }
-{
-    if s < table.len() {
-        return (table[s] % 2) as u8;
-    }
-    0
-}
-
-fn nibble(table: &[u16], s: usize) -> u8
-    requires { ⌜ s < slotCount ⌝ }
-    ensures { λ r. ⌜ (r ≡ nibble (now (table .entry)) s) × (r < 16) ⌝ }
-{
-    bit(table, s) + bit(table, s + 1) * 2 + bit(table, s + 2) * 4 + bit(table, s + 3) * 8
-}
-
-// Digit j of the bitmap that has a bit for each entry of a table.
-fn digit(table: &[u16], j: usize) -> u8
-    requires { ⌜ j < 4096 ⌝ }
-    ensures { λ r. ⌜ r ≡ digitOf (now (table .entry)) j ⌝ }
-{
-    let v = nibble(table, 8 * (j / 2) + 4 * (1 - j % 2));
-    v + 48 + v / 10 * 39
-}
-
-fn put_digits(table: &[u16], out: &mut [u8], at: usize) -> usize
-    ensures { λ r. ⌜ record { bytes = now (out .exit); end = r } ≡ puts (record { bytes = now (out .entry); end = at }) (digitsBelow (now (table .entry)) 4096) ⌝ }
-{
-    let mut end = at;
-    let mut j: usize = 0;
-    while j < DIGITS {
-        end = lines::put(out, end, digit(table, j));
-        j += 1;
-    }
-    end
-}
-
 // A frame's line, from the front of a buffer on: the digits, and behind them the bitmap where slots are claimed.
 pub fn frame(line: &[u8], out: &mut [u8]) -> usize {
-    let text = said(line);
+    let text = words::said(line);
     let end = lines::put_text(out, 0, word_of(text, 2));
     if word_of(text, 3).len() > 0 {
-        let mut table = [0u16; ENTRIES];
+        let mut table = [0u16; tables::SLOTS as usize];
         claims(text, &mut table);
-        return put_digits(&table, out, end);
-    }
-    end
-}
-
-// Byte i of a text in hexadecimal.
-fn byte_at(digits: &[u8], i: usize) -> u8
-    requires { ⌜ i < 9223372036854775808 ⌝ }
-    ensures { λ r. ⌜ r ≡ byteAt (now (digits .entry)) i ⌝ }
-{
-    let high = hex::digit_at(digits, 2 * i);
-    let low = hex::digit_at(digits, 2 * i + 1);
-    high * 16 + low
-}
-
-// The node that a frame names, its sender or its candidate: the second byte.
-pub fn named(frame: &[u8]) -> u8
-    ensures { λ r. ⌜ r ≡ byteAt (now (frame .entry)) 1 ⌝ }
-{
-    byte_at(frame, 1)
-}
-
-// The bytes of a key that is given in hexadecimal, from the front of a buffer on.
-pub fn key(digits: &[u8], out: &mut [u8]) -> usize
-    ensures { λ r. ⌜ (record { bytes = now (out .exit); end = r } ≡ puts (record { bytes = now (out .entry); end = 0 }) (keyBytes (now (digits .entry)))) ⌝ }
-{
-    let count = digits.len() / 2;
-    let mut end: usize = 0;
-    let mut i: usize = 0;
-    while i < count {
-        end = lines::put(out, end, byte_at(digits, i));
-        i += 1;
+        return arguments::put_digits(&table, out, end);
     }
     end
 }

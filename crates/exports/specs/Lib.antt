@@ -1,4 +1,3 @@
-pub mod Digest
+pub mod Claims
 pub mod Frames
-pub mod Rosters
 pub mod Steps

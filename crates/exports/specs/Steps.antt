@@ -1,12 +1,11 @@
 -- One line handed to a node again and again, for callers that time it.
-use Prim.Native.Nat.{ℕ, zero, suc, _+_, _*_, _%_}
+use Prim.Native.Nat.{ℕ, zero, suc}
 use mathlib.Core.List.{List}
-use Rattle.answers.specs.Answers.{number}
 use Rattle.answers.specs.declared.Answer.the-variants.{Done}
+use Rattle.digests.specs.Digest.{outcomeDigest}
 use Rattle.node.specs.Step.{onFrame}
 use Rattle.state.specs.Outcomes.{answered, Stepped}
 use Rattle.state.specs.declared.Node.{Node}
-use Rattle.state.specs.declared.Outcome.{Outcome}
 
 -- before the first line
 abbrev pub first : Node → List ℕ → List ℕ → Stepped
@@ -19,10 +18,6 @@ onceMore line s = onFrame (s .outcome .node) (s .slots) (s .reports) line
 unfoldable pub again : ℕ → List ℕ → Stepped → Stepped
 again zero line s = s
 again (suc times) line s = again times line (onceMore line s)
-
--- the last answer, and the epochs modulo 2^16
-abbrev pub outcomeDigest : Outcome → ℕ
-outcomeDigest o = number (o .answer) + o .node .current % 65536 * 256 + o .node .voted % 65536 * 16777216
 
 pub record Repeated : Type 0 where
   pub digest : ℕ

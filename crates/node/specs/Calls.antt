@@ -8,7 +8,8 @@ use Rattle.state.specs.declared.Outcome.{Outcome}
 use Rattle.state.specs.declared.Move.{Move}
 use Rattle.marks.specs.MarkChanges.{setMark, clearMark}
 use Rattle.openings.specs.Openings.{opens}
-use Rattle.node.specs.Step.{keeping, onFrame}
+use Rattle.kinds.specs.Kinds.{keeping}
+use Rattle.node.specs.Step.{onFrame}
 
 -- the two tables
 pub record Tables : Type 0 where

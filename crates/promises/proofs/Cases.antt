@@ -32,7 +32,8 @@ use Rattle.refusals.specs.Refusals.{isBeyond, frameRefusals, refusals, refusal}
 use Rattle.answers.specs.declared.Check.{Check}
 use Rattle.answers.specs.declared.Check.the-variants.{Passed}
 use Rattle.votes.specs.Votes.{requestChecks, newer, granted, byOwners, requested}
-use Rattle.node.specs.Step.{onKind, onFrame, keeping}
+use Rattle.kinds.specs.Kinds.{keeping, onKind}
+use Rattle.node.specs.Step.{onFrame}
 use Rattle.answers.proofs.Checks.{by-check}
 use Rattle.promises.specs.Cases.{voter, slots, reports, claimOfSlot0, Asked, ask, requestOf, lineOf, VoteRow, voteRows, outdatedRows, Row, key, votes, voteAnswered, votesAnswered, AllCases}
 use Rattle.promises.specs.Cases as table

@@ -49,7 +49,8 @@ use Rattle.openings.specs.Openings.{openRefusals, openChecks, opening, opens, s
 use Rattle.openings.proofs.Steps.{open-cases}
 use Rattle.acks.proofs.Steps.{ack-cases}
 use Rattle.marks.proofs.Kept.{set-marks-keep, clear-marks-keep, set-done, clear-done}
-use Rattle.node.specs.Step.{onKind, turnedAway, takenIn, onFrame}
+use Rattle.kinds.specs.Kinds.{onKind}
+use Rattle.node.specs.Step.{turnedAway, takenIn, onFrame}
 use Rattle.promises.specs.Changes.{Bumped, NotBumped, givesWay, RequestChanges, AckChanges, KindChanges, FrameChanges, LineChanges, OpeningChanges, MarkChanges}
 use Rattle.promises.proofs.Refused.{letsPass}
 use Rattle.promises.proofs.Claims.{table-after}

@@ -44,7 +44,8 @@ use Rattle.votes.proofs.Steps.{request-cases}
 use Rattle.votes.proofs.Exactly.{granted-exactly}
 use Rattle.acks.specs.Acks.{acked}
 use Rattle.acks.proofs.Steps.{ack-cases}
-use Rattle.node.specs.Step.{slottedStep, onKind, turnedAway, takenIn, onFrame}
+use Rattle.kinds.specs.Kinds.{slottedStep, onKind}
+use Rattle.node.specs.Step.{turnedAway, takenIn, onFrame}
 use Rattle.promises.specs.Claims.{staleAt}
 use Rattle.promises.specs.Exactly.{answerTo, Reads, GrantableLine, GrantedExactly, SlotPassesExactly, UnownedGoesExactly, HeartbeatSays}
 use Rattle.promises.proofs.Sounds.{sender-listed}

@@ -35,7 +35,8 @@ use Rattle.votes.specs.Votes.{requestChecks, newer, byOwners, requested}
 use Rattle.openings.specs.Openings.{openRefusals, openChecks, opens, standing}
 use Rattle.acks.specs.Acks.{ackChecks, won, counted, heardIn, acked}
 use Rattle.marks.proofs.Kept.{set-refused, clear-refused}
-use Rattle.node.specs.Step.{onKind, turnedAway, takenIn, onFrame}
+use Rattle.kinds.specs.Kinds.{onKind}
+use Rattle.node.specs.Step.{turnedAway, takenIn, onFrame}
 use Rattle.promises.specs.Refused.{Unchanged, TurnedAwayChangesNothing}
 
 -- the answers past the refusals are none of 1 to 8

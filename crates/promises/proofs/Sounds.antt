@@ -39,7 +39,8 @@ use Rattle.openings.proofs.Kept.{open-sound}
 use Rattle.acks.proofs.Kept.{ack-sound}
 use Rattle.marks.specs.MarkChanges.{setMark, clearMark}
 use Rattle.marks.proofs.Kept.{set-sound, clear-sound}
-use Rattle.node.specs.Step.{onKind, turnedAway, takenIn, onFrame}
+use Rattle.kinds.specs.Kinds.{onKind}
+use Rattle.node.specs.Step.{turnedAway, takenIn, onFrame}
 use Rattle.node.specs.Calls as calls
 use Rattle.node.specs.Calls.{Tables, Call, outcome}
 use Rattle.promises.specs.Sounds.{EveryCallKeepsSound, UnsoundStays}

@@ -275,10 +275,10 @@ fn give(slots: &mut [u16], line: &[u8], call: Call) {
         return;
     }
     let range = calls::word(line, 1);
-    calls::give(
+    arguments::give(
         slots,
-        calls::first_slot(range),
-        calls::last_slot(range),
+        words::first_slot(range),
+        words::last_slot(range),
         short(call.numbers[3]),
     );
 }
@@ -292,7 +292,7 @@ fn stamp(reports: &mut [u64], call: Call) {
         return;
     }
     if at < reports.len() {
-        reports[at] = calls::kept(said[4]);
+        reports[at] = words::kept(said[4]);
     }
 }
 
@@ -323,7 +323,7 @@ fn routed(node: Node, slots: &[u16], line: &[u8], call: Call) -> Redirect {
     let asking = said[4] == 1;
     if call.form == calls::HEXKEY {
         let mut room = [0u8; 65536];
-        let n = calls::key(key, &mut room);
+        let n = arguments::key(key, &mut room);
         return routing::route(node, slots, part(&room, 0, n), present, asking);
     }
     routing::route(node, slots, key, present, asking)
@@ -378,7 +378,7 @@ fn do_frame(node: Node, slots: &mut [u16], reports: &mut [u64], line: &[u8]) -> 
     let n = calls::frame(line, &mut room);
     let frame = part(&room, 0, n);
     let passed = owed(node, slots);
-    let named = calls::named(frame);
+    let named = arguments::named(frame);
     answered(node::frame(node, slots, reports, frame), named, passed)
 }
 

@@ -37,7 +37,8 @@ use Rattle.votes.specs.Votes.{newer, byOwners, requested}
 use Rattle.openings.specs.Openings as openings
 use Rattle.openings.specs.Openings.{opens}
 use Rattle.acks.specs.Acks.{promoted, acked}
-use Rattle.node.specs.Step.{onKind, onFrame}
+use Rattle.kinds.specs.Kinds.{onKind}
+use Rattle.node.specs.Step.{onFrame}
 use Rattle.safety.specs.Deeds.{Deed, granted, counted, won, opened, announced, other, Did, Has, Counted, Won, votingSet}
 use Rattle.safety.specs.Calls.{kindDeed}
 use Rattle.safety.specs.Demand3.{masterBy, SameSet, Made, stateOf, AllGranted}

@@ -58,7 +58,8 @@ use Rattle.acks.specs.Acks.{acked, promoted}
 use Rattle.acks.specs.Counts as acks
 use Rattle.acks.proofs.Steps.{ack-cases}
 use Rattle.acks.proofs.Laws.{ack-keeps, won-most}
-use Rattle.node.specs.Step.{onKind, turnedAway, takenIn, onFrame}
+use Rattle.kinds.specs.Kinds.{onKind}
+use Rattle.node.specs.Step.{turnedAway, takenIn, onFrame}
 use Rattle.node.specs.Calls.{Tables, Call, frame, opening, setting, clearing, outcome}
 use Rattle.safety.specs.Deeds.{Deed, other}
 use Rattle.safety.specs.Calls.{kindDeed, frameDeed, deedOf, deed}

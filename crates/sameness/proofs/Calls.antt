@@ -25,7 +25,8 @@ use Rattle.frames.specs.declared.Decoded.{Decoded}
 use Rattle.frames.specs.declared.Decoded.the-variants.{NotAFrame, Good}
 use Rattle.refusals.specs.Refusals.{bothLong, frameRefusals, refusals}
 use Rattle.openings.specs.Openings.{timeChecks, openRefusals, opens}
-use Rattle.node.specs.Step.{keeping, onKind, turnedAway, takenIn, onFrame}
+use Rattle.kinds.specs.Kinds.{keeping, onKind}
+use Rattle.node.specs.Step.{turnedAway, takenIn, onFrame}
 use Rattle.node.specs.Calls.{Tables, Call, frame, opening, setting, clearing, called}
 use Rattle.sameness.specs.Sameness.{LentCall, told, stateAfter, SameStatesActAlike}
 use Rattle.sameness.proofs.Seen.{Alike, Reads, alike-same, reads-alike, changes-alike}

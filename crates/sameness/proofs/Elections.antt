@@ -28,7 +28,7 @@ use Rattle.state.specs.declared.Outcome.{Outcome}
 use Rattle.votes.specs.Votes.{followsMaster, lately, requestChecks, newer, granted, byOwners, requested}
 use Rattle.openings.specs.Openings.{young, openChecks, opening, standing}
 use Rattle.acks.specs.Acks.{ackChecks, passed, winner, promoted, won, counted, heardIn, acked}
-use Rattle.node.specs.Step.{keeping, slottedStep}
+use Rattle.kinds.specs.Kinds.{keeping, slottedStep}
 use Rattle.sameness.proofs.Seen.{seen, Alike, bare, Reads, record-read, listed-read, master-read, role-read, masters-read, on, Changes, both-change, record-change, reads-alike, reads-where, changes-alike}
 use Rattle.sameness.proofs.Told.{Told, answered-told, checked-told}
 

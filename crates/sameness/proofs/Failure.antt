@@ -19,7 +19,7 @@ use Rattle.state.specs.declared.Verdict.the-variants as verdict
 use Rattle.failure.specs.Failure.{reportAt, stamp, recent, signals, mostSignal, flagIfSignalled, lookedAt}
 use Rattle.probes.specs.Probes.{recovered, pongFlag, afterProbe, probed, unanswered, flagIfUnanswered, suspected, allSuspected, allLookedAt, ticked}
 use Rattle.reports.specs.Reports.{stored, reported, failFlag, failed}
-use Rattle.node.specs.Step.{reportedStep}
+use Rattle.kinds.specs.Kinds.{reportedStep}
 use Rattle.sameness.proofs.Seen.{seen, Alike, Reads, masters-read, on, Changes, both-change, all-change, record-change, reads-alike, changes-alike}
 use Rattle.sameness.proofs.Told.{Told, answered-told}
 

@@ -21,7 +21,7 @@ use Rattle.state.specs.declared.Role.the-variants.{Master, Replica}
 use Rattle.records.specs.Known.{knownConfigs}
 use Rattle.ownership.specs.Claim.{Claimed, claimant, claim}
 use Rattle.heartbeats.specs.Heartbeats.{heardOf, withSender, claimedBy, tied, withNewEpoch, bumped, heartbeat}
-use Rattle.node.specs.Step.{slottedStep}
+use Rattle.kinds.specs.Kinds.{slottedStep}
 use Rattle.sameness.proofs.Seen.{Seen, Alike, bare, listed-read, master-read, record-read, Changes, both-change, record-change, reads-alike, reads-where, changes-alike}
 use Rattle.sameness.proofs.Told.{Told}
 

@@ -21,7 +21,7 @@ use Rattle.slots.specs.Key.{keySlot}
 use Rattle.marks.specs.Marks.{marksOf, others, insert, remarked}
 use Rattle.marks.specs.MarkChanges.{markChecks, setChecks, setMark, unmarkChecks, clearChecks, clearMark}
 use Rattle.routing.specs.Replies.{refused, redirected, routed}
-use Rattle.node.specs.Step.{keeping}
+use Rattle.kinds.specs.Kinds.{keeping}
 use Rattle.sameness.proofs.Seen.{Seen, seen, Alike, bare, stateOf, Reads, from-seen, reads-alike}
 use Rattle.sameness.proofs.Told.{Told, answered-told, checked-told, entry-alike}
 

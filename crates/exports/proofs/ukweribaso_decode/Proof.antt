@@ -15,18 +15,18 @@ enum-known-decoded c = search needs
 bitmap-of-requires : tie.Need-bitmap-of-requires
 bitmap-of-requires c κs = search needs
 
-kind-head-requires : tie.Need-kind-head-requires
-kind-head-requires c κs = search needs
-
-mixed-requires : tie.Need-mixed-requires
-mixed-requires c κs = search needs
+of-frame-requires : tie.Need-of-frame-requires
+of-frame-requires c κs = search needs
 
 returns : tie.Need-returns
 returns c = let d = c .before .before in (rw (← d .decode .ensures, c .enum-told .given .1), rw (← d .decode .ensures, c .enum-told .given .1))
 
 returns-2 : tie.Need-returns-2
-returns-2 c = let b = c .before .before in let g = b .before .before .before .before in let d = g .before .before in
-    (rw (← d .decode .ensures, g .decoded .given .1, ← c .before .kind-head .ensures) (c .mixed .ensures), rw (← d .decode .ensures, g .decoded .given .1) (b .bitmap-of .ensures))
+returns-2 c =
+    let b = c .before in
+    let g = b .before .before .before .before in
+    let d = g .before .before in
+    (rw (← d .decode .ensures, g .decoded .given .1) (c .of-frame .ensures), rw (← d .decode .ensures, g .decoded .given .1) (b .bitmap-of .ensures))
 
 pub ukweribaso-decode-spec : {M : Type 1} → statement M
 ukweribaso-decode-spec =
@@ -36,7 +36,6 @@ ukweribaso-decode-spec =
     enum-told
     enum-known-decoded
     bitmap-of-requires
-    kind-head-requires
-    mixed-requires
+    of-frame-requires
     returns
     returns-2)
