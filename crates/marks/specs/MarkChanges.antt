@@ -14,7 +14,7 @@ use Rattle.state.specs.declared.Node.{Node}
 use Rattle.state.specs.declared.Move.{Move}
 use Rattle.state.specs.declared.Move.the-variants.{Migrating, Importing}
 use Rattle.state.specs.declared.Outcome.{Outcome}
-use Rattle.soundness.specs.Entry.{entryChecks}
+use Rattle.entry.specs.Entry.{entryChecks}
 use Rattle.marks.specs.Marks.{marksOf, markingAt, isUnmarked, others, insert, remarked, isOwn}
 
 -- ---- setting

@@ -167,7 +167,7 @@ fn mark_slot(node: Node, slots: &[u16], slot: u16, movement: Move) -> Outcome
 pub fn set_mark(node: Node, slots: &[u16], slot: u16, movement: Move) -> Outcome
     ensures { λ r. ⌜ r ≡ setMark node (now (slots .entry)) slot movement ⌝ }
 {
-    let check = soundness::entry(node, slots.len() == tables::SLOTS as usize);
+    let check = entry::checks(node, slots.len() == tables::SLOTS as usize);
     match check {
         Check::Refused(answer) => Outcome { answer, node },
         Check::Passed => mark_slot(node, slots, slot, movement),
@@ -207,7 +207,7 @@ fn unmark_slot(node: Node, slot: u16) -> Outcome
 pub fn clear_mark(node: Node, slot: u16) -> Outcome
     ensures { λ r. ⌜ r ≡ clearMark node slot ⌝ }
 {
-    let check = soundness::entry(node, true);
+    let check = entry::checks(node, true);
     match check {
         Check::Refused(answer) => Outcome { answer, node },
         Check::Passed => unmark_slot(node, slot),

@@ -18,7 +18,7 @@ use Rattle.state.specs.declared.Role.{Role}
 use Rattle.state.specs.declared.Election.{Election}
 use Rattle.state.specs.declared.Election.the-variants.{Closed, Open}
 use Rattle.state.specs.declared.Outcome.{Outcome}
-use Rattle.soundness.specs.Entry.{entryChecks}
+use Rattle.entry.specs.Entry.{entryChecks}
 
 -- 28: an election is open, and its opening is too young
 abbrev pub young : Node → Election → Bool

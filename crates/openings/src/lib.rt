@@ -100,7 +100,7 @@ fn standing(node: Node, slots: &[u16]) -> Outcome
 fn early_refusal(node: Node, slots: &[u16], time: u64) -> Check
     ensures { λ r. ⌜ r ≡ checked Refused (openRefusals node (now (slots .entry)) time) Passed ⌝ }
 {
-    let check = soundness::entry(node, slots.len() == tables::SLOTS as usize);
+    let check = entry::checks(node, slots.len() == tables::SLOTS as usize);
     match check {
         Check::Refused(answer) => Check::Refused(answer),
         Check::Passed => {

@@ -13,7 +13,7 @@ use Rattle.answers.specs.declared.Check.the-variants.{Passed, Refused}
 use Rattle.answers.proofs.Checks.{onCheck, testFor, refusalsPass, unrefused, in-two}
 use Rattle.state.specs.Changes.{arrived}
 use Rattle.state.specs.declared.Node.{Node}
-use Rattle.soundness.specs.Entry.{entryChecks}
+use Rattle.entry.specs.Entry.{entryChecks}
 use Rattle.soundness.specs.Sound.{sound}
 use Rattle.soundness.proofs.Kept.{arrived-sound}
 use Rattle.frames.specs.declared.Header.{Header}

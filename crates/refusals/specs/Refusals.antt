@@ -13,7 +13,7 @@ use Rattle.answers.specs.declared.Check.{Check}
 use Rattle.answers.specs.declared.Check.the-variants.{Passed, Refused}
 use Rattle.state.specs.declared.Node.{Node}
 use Rattle.state.specs.declared.Role.the-variants.{Master, Replica}
-use Rattle.soundness.specs.Entry.{entryChecks}
+use Rattle.entry.specs.Entry.{entryChecks}
 use Rattle.frames.specs.declared.Header.{Header}
 use Rattle.frames.specs.declared.Kind.{Kind}
 use Rattle.frames.specs.declared.Kind.the-variants.{Heartbeat, Report, Fail, Request, Ack, Probe, Tick}

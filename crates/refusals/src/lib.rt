@@ -206,7 +206,7 @@ fn both_long(slots: usize, reports: usize) -> bool
 pub fn refusal(node: Node, slots: usize, reports: usize, line: Decoded) -> Check
     ensures { λ r. ⌜ r ≡ refusal node slots reports line ⌝ }
 {
-    let check = soundness::entry(node, both_long(slots, reports));
+    let check = entry::checks(node, both_long(slots, reports));
     match check {
         Check::Refused(answer) => Check::Refused(answer),
         Check::Passed => match line {

@@ -21,7 +21,7 @@ use Rattle.state.specs.declared.Node.{Node}
 use Rattle.state.specs.declared.Move.{Move}
 use Rattle.state.specs.declared.Move.the-variants.{Migrating, Importing}
 use Rattle.soundness.specs.Sound.{sound, markSound}
-use Rattle.soundness.specs.Entry.{entryChecks}
+use Rattle.entry.specs.Entry.{entryChecks}
 use Rattle.marks.specs.declared.Marking.{Marking}
 use Rattle.marks.specs.declared.Marking.the-variants.{Unmarked, Moving}
 use Rattle.routing.specs.declared.Redirect.{Redirect}

@@ -14,7 +14,7 @@ use Rattle.state.specs.Node.{listed}
 use Rattle.state.specs.declared.Node.{Node}
 use Rattle.state.specs.declared.Move.the-variants.{Migrating, Importing}
 use Rattle.soundness.specs.Sound.{sound}
-use Rattle.soundness.specs.Entry.{entryChecks}
+use Rattle.entry.specs.Entry.{entryChecks}
 use Rattle.marks.specs.Marks.{markingAt, ownerAt, isOwn}
 use Rattle.marks.specs.declared.Marking.{Marking}
 use Rattle.marks.specs.declared.Marking.the-variants.{Unmarked, Moving}

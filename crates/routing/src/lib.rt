@@ -99,7 +99,7 @@ fn redirected(node: Node, slots: &[u16], slot: u16, present: bool, asking: bool)
 pub fn route(node: Node, slots: &[u16], key: &[u8], present: bool, asking: bool) -> Redirect
     ensures { λ r. ⌜ reply r ≡ routed node (now (slots .entry)) (now (key .entry)) present asking ⌝ }
 {
-    let check = soundness::entry(node, slots.len() == tables::SLOTS as usize);
+    let check = entry::checks(node, slots.len() == tables::SLOTS as usize);
     match check {
         Check::Refused(refusal) => refused(refusal),
         Check::Passed => {

@@ -9,7 +9,7 @@ use Rattle.answers.specs.declared.Answer.the-variants.{WrongLength, Unsound}
 use Rattle.answers.proofs.Checks.{testFor, refusalsPass, past}
 use Rattle.state.specs.Outcomes.{answered, Stepped}
 use Rattle.state.specs.declared.Node.{Node}
-use Rattle.soundness.specs.Entry.{entryChecks}
+use Rattle.entry.specs.Entry.{entryChecks}
 use Rattle.kinds.specs.Kinds.{keeping}
 use Rattle.sameness.specs.Sameness.{SameStep}
 use Rattle.sameness.proofs.Seen.{Alike, alike-same, alike-sound}

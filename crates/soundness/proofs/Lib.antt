@@ -1,5 +1,4 @@
 pub mod Order
-pub mod Arrays
 pub mod Facts
 pub mod Kept
 pub mod Alike

@@ -7,24 +7,24 @@ use Rattle.tables.specs.Checks.{checked}
 use Rattle.tables.specs.Sizes.{slotCount}
 use Rattle.answers.specs.declared.Check.the-variants.{Passed, Refused}
 use Rattle.answers.proofs.Checks.{onCheck, in-two}
-use Rattle.soundness.specs.Entry.{entryChecks}
+use Rattle.entry.specs.Entry.{entryChecks}
 use Rattle.openings.specs.Openings.{timeChecks, openRefusals}
 use borrow.Author.Needs.{needs}
 use Rattle.openings.proofs.early_refusal.Statement.{statement}
 use Rattle.openings.proofs.early_refusal.Tie as tie
 
 -- the definition, by what 1 and 7 came to
-told : (c : tie.After-entry) → let a = c .before .before .args in
+told : (c : tie.After-checks) → let a = c .before .before .args in
     checked Refused (openRefusals (a .node) (a .slots .now) (a .time)) Passed
-    ≡ onCheck Refused (checked Refused (timeChecks (a .node) (a .time)) Passed) (c .entry .result)
+    ≡ onCheck Refused (checked Refused (timeChecks (a .node) (a .time)) Passed) (c .checks .result)
 told c = let a = c .before .before .args in
-    in-two Refused (entryChecks (eqb (length (a .slots .now)) slotCount) (a .node)) (timeChecks (a .node) (a .time)) Passed ∙ ap (onCheck Refused _) (sym (c .entry .ensures))
+    in-two Refused (entryChecks (eqb (length (a .slots .now)) slotCount) (a .node)) (timeChecks (a .node) (a .time)) Passed ∙ ap (onCheck Refused _) (sym (c .checks .ensures))
 
-cast-entry : tie.Need-cast-entry
-cast-entry c = search needs
+cast-checks : tie.Need-cast-checks
+cast-checks c = search needs
 
-entry-requires : tie.Need-entry-requires
-entry-requires c κs = search needs
+checks-requires : tie.Need-checks-requires
+checks-requires c κs = search needs
 
 enum-known-check : tie.Need-enum-known-check
 enum-known-check c = search needs
@@ -48,8 +48,8 @@ pub early-refusal-spec : {M : Type 1} → statement M
 early-refusal-spec =
     tie.close
     (tie.spec
-    cast-entry
-    entry-requires
+    cast-checks
+    checks-requires
     enum-known-check
     enum-told
     returns

@@ -9,8 +9,8 @@ use Rattle.refusals.proofs.refusal.Tie as tie
 both-long-requires : tie.Need-both-long-requires
 both-long-requires c κs = search needs
 
-entry-requires : tie.Need-entry-requires
-entry-requires c κs = search needs
+checks-requires : tie.Need-checks-requires
+checks-requires c κs = search needs
 
 enum-known-check : tie.Need-enum-known-check
 enum-known-check c = search needs
@@ -28,21 +28,21 @@ frame-refusal-requires : tie.Need-frame-refusal-requires
 frame-refusal-requires c κs = search needs
 
 returns : tie.Need-returns
-returns c = sym (by-entry _ _ _ _ ∙ rw (← c .before .before .before .before .both-long .ensures, ← c .before .before .before .entry .ensures, c .before .check .given .1))
+returns c = sym (by-entry _ _ _ _ ∙ rw (← c .before .before .before .before .both-long .ensures, ← c .before .before .before .checks .ensures, c .before .check .given .1))
 
 returns-2 : tie.Need-returns-2
 unfolding frameRefusals
-returns-2 c = sym (by-entry _ _ _ _ ∙ rw (← c .before .before .before .before .before .both-long .ensures, ← c .before .before .before .before .entry .ensures, c .before .before .enum-told .given .1, c .enum-told2 .given .1))
+returns-2 c = sym (by-entry _ _ _ _ ∙ rw (← c .before .before .before .before .before .both-long .ensures, ← c .before .before .before .before .checks .ensures, c .before .before .enum-told .given .1, c .enum-told2 .given .1))
 
 returns-3 : tie.Need-returns-3
-returns-3 c = c .frame-refusal .ensures ∙ sym (by-entry _ _ _ _ ∙ rw (← c .before .before .before .before .before .before .before .both-long .ensures, ← c .before .before .before .before .before .before .entry .ensures, c .before .before .before .before .enum-told .given .1, c .before .before .line .given .1))
+returns-3 c = c .frame-refusal .ensures ∙ sym (by-entry _ _ _ _ ∙ rw (← c .before .before .before .before .before .before .before .both-long .ensures, ← c .before .before .before .before .before .before .checks .ensures, c .before .before .before .before .enum-told .given .1, c .before .before .line .given .1))
 
 pub refusal-spec : {M : Type 1} → statement M
 refusal-spec =
     tie.close
     (tie.spec
     both-long-requires
-    entry-requires
+    checks-requires
     enum-known-check
     enum-told
     enum-told-2

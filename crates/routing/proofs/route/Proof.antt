@@ -11,31 +11,31 @@ use Rattle.answers.specs.declared.Check.the-variants.{Passed, Refused}
 use Rattle.answers.proofs.Checks.{onCheck, by-check, unrefused}
 use Rattle.slots.specs.Key.{keySlot}
 use Rattle.slots.proofs.Slots.{key-slot-below}
-use Rattle.soundness.specs.Entry.{entryChecks}
+use Rattle.entry.specs.Entry.{entryChecks}
 use Rattle.routing.specs.Replies.{refused, redirected, routed}
 use Rattle.routing.proofs.Replies.{entry-refusal}
 use Rattle.routing.proofs.route.Statement.{statement}
 use Rattle.routing.proofs.route.Tie as tie
 
 -- the definition, by what the first checks came to
-told : (c : tie.After-entry) → let a = c .before .before .before .args in
-    routed (a .node) (a .slots .now) (a .key .now) (a .present) (a .asking) ≡ onCheck (λ r. refused (number r)) (redirected (a .node) (a .slots .now) (keySlot (a .key .now)) (a .present) (a .asking)) (c .entry .result)
+told : (c : tie.After-checks) → let a = c .before .before .before .args in
+    routed (a .node) (a .slots .now) (a .key .now) (a .present) (a .asking) ≡ onCheck (λ r. refused (number r)) (redirected (a .node) (a .slots .now) (keySlot (a .key .now)) (a .present) (a .asking)) (c .checks .result)
 unfolding routed
 told c = let a = c .before .before .before .args in
-    by-check (λ r. refused (number r)) (entryChecks (eqb (length (a .slots .now)) slotCount) (a .node)) _ ∙ ap (onCheck (λ r. refused (number r)) _) (sym (c .entry .ensures))
+    by-check (λ r. refused (number r)) (entryChecks (eqb (length (a .slots .now)) slotCount) (a .node)) _ ∙ ap (onCheck (λ r. refused (number r)) _) (sym (c .checks .ensures))
 
-cast-entry : tie.Need-cast-entry
-cast-entry c = search needs
+cast-checks : tie.Need-cast-checks
+cast-checks c = search needs
 
-entry-requires : tie.Need-entry-requires
-entry-requires c κs = search needs
+checks-requires : tie.Need-checks-requires
+checks-requires c κs = search needs
 
 enum-known-check : tie.Need-enum-known-check
 enum-known-check c = search needs
 
 refused-requires : tie.Need-refused-requires
 refused-requires c κs = let e = c .before .before .before in let a = e .before .before .before .args in
-    entry-refusal (eqb (length (a .slots .now)) slotCount) (a .node) _ (sym (e .entry .ensures) ∙ c .before .check .given .1)
+    entry-refusal (eqb (length (a .slots .now)) slotCount) (a .node) _ (sym (e .checks .ensures) ∙ c .before .check .given .1)
 
 enum-told : tie.Need-enum-told
 enum-told c = search needs
@@ -46,7 +46,7 @@ key-slot-requires c κs = search needs
 redirected-requires : tie.Need-redirected-requires
 redirected-requires c κs =
     let t = c .before in let e = t .before .before in let a = e .before .before .before .args in let l = length (a .slots .now) in let rows = entryChecks (eqb l slotCount) (a .node) in
-    let p : checked Refused rows Passed ≡ Passed = sym (e .entry .ensures) ∙ t .enum-told .given .1 in
+    let p : checked Refused rows Passed ≡ Passed = sym (e .checks .ensures) ∙ t .enum-told .given .1 in
     rw (c .key-slot .ensures, eqb-true l slotCount (not-false _ (unrefused 1 rows p))) (key-slot-below (a .key .now))
 
 returns : tie.Need-returns
@@ -60,8 +60,8 @@ pub route-spec : {M : Type 1} → statement M
 route-spec =
     tie.close
     (tie.spec
-    cast-entry
-    entry-requires
+    cast-checks
+    checks-requires
     enum-known-check
     refused-requires
     enum-told

@@ -1,11 +1,11 @@
--- `soundness::sound` meets its contract: each early answer cites the test that failed.
+-- `entry::sound` meets its contract: each early answer cites the test that failed.
 use mathlib.Core.Path.{sym, _∙_}
 use borrow.Author.Tests.{le-ltb, lt-leb}
 use borrow.Author.Needs.{needs}
 use Rattle.tables.proofs.Checks.{fails}
 use Rattle.soundness.specs.Sound.{sound, soundChecks}
-use Rattle.soundness.proofs.sound.Statement.{statement}
-use Rattle.soundness.proofs.sound.Tie as tie
+use Rattle.entry.proofs.sound.Statement.{statement}
+use Rattle.entry.proofs.sound.Tie as tie
 
 bounded-requires : tie.Need-bounded-requires
 bounded-requires c κs = search needs

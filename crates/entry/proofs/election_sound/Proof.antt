@@ -1,4 +1,4 @@
--- `soundness::election_sound` meets its contract.
+-- `entry::election_sound` meets its contract.
 use mathlib.Core.Path.{_≡_, sym, ap, _∙_}
 use mathlib.Core.Bool.{Bool, not, false}
 use mathlib.Core.List.{List}
@@ -8,9 +8,9 @@ use Rattle.tables.specs.Checks.{allOf}
 use Rattle.tables.proofs.Checks.{fails}
 use Rattle.state.specs.Node.{recordAt, isMaster}
 use Rattle.state.specs.declared.Record.{Record}
 use Rattle.soundness.specs.Sound.{electionSound, electionChecks}
-use Rattle.soundness.proofs.election_sound.Statement.{statement}
-use Rattle.soundness.proofs.election_sound.Tie as tie
+use Rattle.entry.proofs.election_sound.Statement.{statement}
+use Rattle.entry.proofs.election_sound.Tie as tie
 
 abbrev checks : tie.After-election → List Bool
 checks e = let f = e .election .given .0 in electionChecks (e .before .before .args .node) (f .0) (f .1 .0) (f .1 .1 .0) (f .1 .1 .1 .0)

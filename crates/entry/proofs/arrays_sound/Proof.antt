@@ -1,4 +1,4 @@
--- `soundness::arrays_sound` meets its contract: each early answer cites the test that failed.
+-- `entry::arrays_sound` meets its contract: each early answer cites the test that failed.
 use mathlib.Core.Path.{_≡_, refl, sym, ap, _∙_}
 use mathlib.Core.Bool.{true, false, cond}
 use Prim.Native.Nat.{ℕ, _+_, _-_, _≤_, _<_}
@@ -11,10 +11,10 @@ use Rattle.tables.proofs.Checks.{fails, part}
 use Rattle.tables.proofs.Below.{every-fails, every-more}
 use Rattle.state.specs.Node.{recordAt}
 use Rattle.state.specs.declared.Node.{Node}
 use Rattle.soundness.specs.Sound.{sound, soundChecks, boundsKept, boundChecks, arraysWhole, idsAscend, idInOrder, recordsSound, recordSoundAt, electionSound, ownClear, marksSound, markSoundAt, marksAscend}
-use Rattle.soundness.proofs.Arrays.{Passed, slot-fits, own-fails, both-hold, passed-none, passed-more, passed-low, passed-all}
-use Rattle.soundness.proofs.arrays_sound.Statement.{statement}
-use Rattle.soundness.proofs.arrays_sound.Tie as tie
+use Rattle.entry.proofs.Arrays.{Passed, slot-fits, own-fails, both-hold, passed-none, passed-more, passed-low, passed-all}
+use Rattle.entry.proofs.arrays_sound.Statement.{statement}
+use Rattle.entry.proofs.arrays_sound.Tie as tie
 
 abbrev Inv-loop : tie.InvT-loop
 Inv-loop node me marked least₀ i₀ least i = (i ≤ marked) × Passed node i least

@@ -1,8 +1,8 @@
--- `soundness::own_sound` meets its contract.
+-- `entry::own_sound` meets its contract.
 use mathlib.Core.Path.{sym, _∙_}
 use borrow.Author.Needs.{needs}
-use Rattle.soundness.proofs.own_sound.Statement.{statement}
-use Rattle.soundness.proofs.own_sound.Tie as tie
+use Rattle.entry.proofs.own_sound.Statement.{statement}
+use Rattle.entry.proofs.own_sound.Tie as tie
 
 own-clear-requires : tie.Need-own-clear-requires
 own-clear-requires c κs = search needs
