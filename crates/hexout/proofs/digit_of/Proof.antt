@@ -1,9 +1,9 @@
--- `hex::digit_of` meets its contract.
+-- `hexout::digit_of` meets its contract.
 use borrow.Author.Tests.{lt-ltb, le-ltb}
 use Rattle.hex.specs.Hex.{character}
 use borrow.Author.Needs.{needs}
-use Rattle.hex.proofs.digit_of.Statement.{statement}
-use Rattle.hex.proofs.digit_of.Tie as tie
+use Rattle.hexout.proofs.digit_of.Statement.{statement}
+use Rattle.hexout.proofs.digit_of.Tie as tie
 
 add-result : tie.Need-add-result
 add-result c = search needs

@@ -1,8 +1,8 @@
--- `hex::look_up` meets its contract.
+-- `hexbytes::look_up` meets its contract.
 use Rattle.hex.proofs.Digits.{digit-lt}
 use borrow.Author.Needs.{needs}
-use Rattle.hex.proofs.look_up.Statement.{statement}
-use Rattle.hex.proofs.look_up.Tie as tie
+use Rattle.hexbytes.proofs.look_up.Statement.{statement}
+use Rattle.hexbytes.proofs.look_up.Tie as tie
 
 element-copy-out-result : tie.Need-element-copy-out-result
 element-copy-out-result c = search needs

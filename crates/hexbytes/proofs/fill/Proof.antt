@@ -1,14 +1,14 @@
--- `hex::fill` meets its contract.
+-- `hexbytes::fill` meets its contract.
 use mathlib.Core.Path.{_≡_, refl, _∙_}
 use mathlib.Core.List.{_++_}
 use Prim.Native.Nat.{_-_, _≤_}
 use native.Mathlib.Omega.{arith}
 use lib.ListN.{length, drop, length-set}
 use Rattle.hex.specs.Hex.{bytesAt}
 use Rattle.hex.proofs.Bytes.{two-digits, more-bytes, all-bytes}
 use borrow.Author.Needs.{needs}
-use Rattle.hex.proofs.fill.Statement.{statement}
-use Rattle.hex.proofs.fill.Tie as tie
+use Rattle.hexbytes.proofs.fill.Statement.{statement}
+use Rattle.hexbytes.proofs.fill.Tie as tie
 
 abbrev Inv-loop : tie.InvT-loop
 Inv-loop values line from out₀ first second i₀ out i = (i ≤ length out₀) × (length out ≡ length out₀) × (out ≡ bytesAt line from i ++ drop i out₀)

@@ -1,8 +1,8 @@
--- `hex::write_byte` meets its contract.
+-- `hexout::write_byte` meets its contract.
 use native.Mathlib.Nat.{add-zero}
 use borrow.Author.Needs.{needs}
-use Rattle.hex.proofs.write_byte.Statement.{statement}
-use Rattle.hex.proofs.write_byte.Tie as tie
+use Rattle.hexout.proofs.write_byte.Statement.{statement}
+use Rattle.hexout.proofs.write_byte.Tie as tie
 
 write-after-requires : tie.Need-write-after-requires
 write-after-requires c κs = search needs

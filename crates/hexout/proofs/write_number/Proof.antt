@@ -1,13 +1,13 @@
--- `hex::write_number` meets its contract.
+-- `hexout::write_number` meets its contract.
 use mathlib.Core.Path.{_≡_, refl, sym, subst, _∙_}
 use Prim.Native.Nat.{ℕ, suc, _-_, _≤_}
 use native.Mathlib.Omega.{arith}
 use lib.ListN.{length}
 use Rattle.hex.specs.Hex.{hex, bytesOf, over}
 use Rattle.hex.proofs.Over.{over-nothing, length-over, last-written}
 use borrow.Author.Needs.{needs}
-use Rattle.hex.proofs.write_number.Statement.{statement}
-use Rattle.hex.proofs.write_number.Tie as tie
+use Rattle.hexout.proofs.write_number.Statement.{statement}
+use Rattle.hexout.proofs.write_number.Tie as tie
 
 abbrev Inv-loop : tie.InvT-loop
 Inv-loop out₀ i number rest₀ k₀ out rest k = (k ≤ 8) × (length out ≡ length out₀) × (over out i (hex (bytesOf k rest)) ≡ over out₀ i (hex (bytesOf 8 number)))

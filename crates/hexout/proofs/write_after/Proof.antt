@@ -1,10 +1,10 @@
--- `hex::write_after` meets its contract.
+-- `hexout::write_after` meets its contract.
 use mathlib.Core.Path.{_∙_}
 use Rattle.hex.specs.Hex.{hex}
 use Rattle.hex.proofs.Over.{two-written}
 use borrow.Author.Needs.{needs}
-use Rattle.hex.proofs.write_after.Statement.{statement}
-use Rattle.hex.proofs.write_after.Tie as tie
+use Rattle.hexout.proofs.write_after.Statement.{statement}
+use Rattle.hexout.proofs.write_after.Tie as tie
 
 add-put : tie.Need-add-put
 add-put c = search needs

@@ -1,13 +1,13 @@
--- `hex::values` meets its contract.
+-- `hexbytes::values` meets its contract.
 use mathlib.Core.Path.{_≡_}
 use Prim.Native.Nat.{ℕ, _-_, _≤_, _<_}
 use native.Mathlib.Omega.{arith}
 use lib.ListN.{length, getD, length-set}
 use Rattle.hex.specs.Hex.{digit}
 use Rattle.hex.proofs.Digits.{one-value}
 use borrow.Author.Needs.{needs}
-use Rattle.hex.proofs.values.Statement.{statement}
-use Rattle.hex.proofs.values.Tie as tie
+use Rattle.hexbytes.proofs.values.Statement.{statement}
+use Rattle.hexbytes.proofs.values.Tie as tie
 
 abbrev Inv-loop : tie.InvT-loop
 Inv-loop values₀ i₀ values i = (i ≤ 256) × (length values ≡ 256) × ((c : ℕ) → c < i → getD values c 0 ≡ digit c)

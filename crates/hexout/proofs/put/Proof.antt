@@ -1,9 +1,9 @@
--- `hex::put` meets its contract.
+-- `hexout::put` meets its contract.
 use native.Mathlib.Omega.{arith}
 use Rattle.hex.proofs.Over.{over-one, over-past}
 use borrow.Author.Needs.{needs}
-use Rattle.hex.proofs.put.Statement.{statement}
-use Rattle.hex.proofs.put.Tie as tie
+use Rattle.hexout.proofs.put.Statement.{statement}
+use Rattle.hexout.proofs.put.Tie as tie
 
 returns : tie.Need-returns
 returns c = over-past _ _ _ (omega arith)
