@@ -1,7 +1,7 @@
--- `refusals::heard` meets its contract.
+-- `naming::heard` meets its contract.
 use borrow.Author.Needs.{needs}
-use Rattle.refusals.proofs.heard.Statement.{statement}
-use Rattle.refusals.proofs.heard.Tie as tie
+use Rattle.naming.proofs.heard.Statement.{statement}
+use Rattle.naming.proofs.heard.Tie as tie
 
 enum-told : tie.Need-enum-told
 enum-told c = search needs

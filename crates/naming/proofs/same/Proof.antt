@@ -1,7 +1,7 @@
--- `refusals::same` meets its contract.
+-- `naming::same` meets its contract.
 use borrow.Author.Needs.{needs}
-use Rattle.refusals.proofs.same.Statement.{statement}
-use Rattle.refusals.proofs.same.Tie as tie
+use Rattle.naming.proofs.same.Statement.{statement}
+use Rattle.naming.proofs.same.Tie as tie
 
 enum-told : tie.Need-enum-told
 enum-told c = search needs

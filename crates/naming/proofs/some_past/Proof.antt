@@ -1,8 +1,8 @@
--- `refusals::some_own` meets its contract.
-use borrow.Author.Tests.{eq-eqb, ne-eqb}
+-- `naming::some_past` meets its contract.
+use borrow.Author.Tests.{le-leb, le-ltb, lt-leb, lt-ltb}
 use borrow.Author.Needs.{needs}
-use Rattle.refusals.proofs.some_own.Statement.{statement}
-use Rattle.refusals.proofs.some_own.Tie as tie
+use Rattle.naming.proofs.some_past.Statement.{statement}
+use Rattle.naming.proofs.some_past.Tie as tie
 
 enum-told : tie.Need-enum-told
 enum-told c = search needs
@@ -20,7 +20,7 @@ cast-if1 : tie.Need-cast-if1
 cast-if1 c = search needs
 
 returns : tie.Need-returns
-returns c = simp (eq-eqb _ _ (c .if1 .taken), c .before .before .numbers2 .given .1)
+returns c = simp (le-ltb _ _ (c .if1 .taken), le-leb _ _ (c .if1 .taken), c .before .before .numbers2 .given .1)
 
 cast-result-2 : tie.Need-cast-result-2
 cast-result-2 c = search needs
@@ -32,10 +32,10 @@ returns-3 : tie.Need-returns-3
 returns-3 c = simp (c .before .numbers .given .1)
 
 returns-4 : tie.Need-returns-4
-returns-4 c = rw (c .before .before .numbers2 .given .1, ne-eqb _ _ (c .if1 .left))
+returns-4 c = rw (c .before .before .numbers2 .given .1, lt-leb _ _ (c .if1 .left))
 
-pub some-own-spec : {M : Type 1} → statement M
-some-own-spec =
+pub some-past-spec : {M : Type 1} → statement M
+some-past-spec =
     tie.close
     (tie.spec
     enum-told

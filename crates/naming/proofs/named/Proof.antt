@@ -1,7 +1,7 @@
--- `refusals::named` meets its contract.
+-- `naming::named` meets its contract.
 use borrow.Author.Needs.{needs}
-use Rattle.refusals.proofs.named.Statement.{statement}
-use Rattle.refusals.proofs.named.Tie as tie
+use Rattle.naming.proofs.named.Statement.{statement}
+use Rattle.naming.proofs.named.Tie as tie
 
 enum-known-kind : tie.Need-enum-known-kind
 enum-known-kind c = search needs
