@@ -291,5 +291,5 @@ pub fn decode(line: &[u8]) -> Decoded
 pub fn bitmap(line: &[u8], out: &mut [u8; 2048])
     ensures { λ _. ⌜ now (out .exit) ≡ bitmapOf (now (line .entry)) ⌝ }
 {
-    hex::bytes_at(line, 28, out);
+    hexbytes::bytes_at(line, 28, out);
 }

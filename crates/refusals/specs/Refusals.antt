@@ -1,6 +1,6 @@
 -- What a frame is turned away for: document 01, "What a frame is answered", the checks 1 to 8.
 use Prim.Native.Nat.{ℕ}
-use mathlib.Core.Bool.{Bool, true, false}
+use mathlib.Core.Bool.{Bool, true}
 use mathlib.Core.List.{List, [], _∷_, _++_}
 use lib.Dec.{eqb, ltb, leb}
 use Rattle.tables.specs.Sizes.{slotCount, reportCount, top, timeEnd}
@@ -12,47 +12,12 @@ use Rattle.answers.specs.declared.Answer.the-variants as answer
 use Rattle.answers.specs.declared.Check.{Check}
 use Rattle.answers.specs.declared.Check.the-variants.{Passed, Refused}
 use Rattle.state.specs.declared.Node.{Node}
-use Rattle.state.specs.declared.Role.the-variants.{Master, Replica}
 use Rattle.entry.specs.Entry.{entryChecks}
 use Rattle.frames.specs.declared.Header.{Header}
 use Rattle.frames.specs.declared.Kind.{Kind}
-use Rattle.frames.specs.declared.Kind.the-variants.{Heartbeat, Report, Fail, Request, Ack, Probe, Tick}
 use Rattle.frames.specs.declared.Decoded.{Decoded}
 use Rattle.frames.specs.declared.Decoded.the-variants.{NotAFrame, Good}
-use Rattle.refusals.specs.declared.Numbers.{Numbers}
-use Rattle.refusals.specs.declared.Numbers.the-variants.{Nobody, One, Two}
-use Rattle.refusals.specs.declared.Naming.{Naming}
-
--- ---- what a kind names
-
-abbrev pub naming : Numbers → Numbers → Numbers → Numbers → Naming
-naming listed follower others reporter = record { listed = listed; follower = follower; others = others; reporter = reporter }
-
--- By kind: the numbers that must be in the roster (3), a replica and whom it follows (8), the numbers that may not be this
--- node, and a reporter and its subject (both 6).
-abbrev pub named : Kind → Naming
-named (Heartbeat sender Master) = naming (One sender) Nobody (One sender) Nobody
-named (Heartbeat sender (Replica m)) = naming (Two sender m) (Two sender m) (One sender) Nobody
-named (Report reporter subject said) = naming (Two reporter subject) Nobody (Two reporter subject) (Two reporter subject)
-named (Fail sender subject) = naming (Two sender subject) Nobody (Two sender subject) Nobody
-named (Request candidate) = naming (One candidate) Nobody (One candidate) Nobody
-named (Ack voter candidate) = naming (Two voter candidate) Nobody (One voter) Nobody
-named (Probe subject echo) = naming (One subject) Nobody (One subject) Nobody
-named Tick = naming Nobody Nobody Nobody Nobody
-
--- one of the numbers passes
-abbrev pub some : (ℕ → Bool) → Numbers → Bool
-some p Nobody = false
-some p (One a) = p a
-some p (Two a b) = anyOf (p a ∷ p b ∷ [])
-
--- the two are the same
-abbrev pub same : Numbers → Bool
-same Nobody = false
-same (One a) = false
-same (Two a b) = eqb a b
-
--- ---- the checks
+use Rattle.naming.specs.Naming.{named, some, same}
 
 -- 3: a node number not in the roster
 abbrev pub isUnlisted : ℕ → Kind → Bool
