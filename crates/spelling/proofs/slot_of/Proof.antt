@@ -1,12 +1,12 @@
--- `keyslots::slot_of`: the key that was decoded, if any, has its slot.
+-- `spelling::slot_of`: the key that was decoded, if any, has its slot.
 use mathlib.Core.Path.{sym}
 use Prim.Native.Nat.{_≤_}
 use lib.ListN.{length}
 use lib.Seq.{length-take-le}
-use Rattle.keyslots.proofs.Lines.{within-key}
+use Rattle.spelling.proofs.Lines.{within-key}
 use borrow.Author.Needs.{needs}
-use Rattle.keyslots.proofs.slot_of.Statement.{statement}
-use Rattle.keyslots.proofs.slot_of.Tie as tie
+use Rattle.spelling.proofs.slot_of.Statement.{statement}
+use Rattle.spelling.proofs.slot_of.Tie as tie
 
 -- the key's bytes stand within the line
 inside : (c : tie.After-known-told) → c .before .n .given .0 .0 ≤ length (c .before .before .before .before .before .decode .last .0)

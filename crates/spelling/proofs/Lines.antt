@@ -8,9 +8,9 @@ use native.Mathlib.Numerals.{add-one}
 use lib.ListN.{length, take, drop, getD, set, length-set, drop-of-length-le}
 use lib.Seq.{drop-cons, take-suc-set, getD-set-other}
 use borrow.Author.Tests.{lt-ltb, le-ltb}
-use Rattle.keyslots.specs.Lines.{digitOf, Line, key, bad, onto, read, Within}
-use Rattle.keyslots.specs.declared.Spelled.{Spelled}
-use Rattle.keyslots.specs.declared.Spelled.the-variants.{Key}
+use Rattle.spelling.specs.Lines.{digitOf, Line, key, bad, onto, read, Within}
+use Rattle.spelling.specs.declared.Spelled.{Spelled}
+use Rattle.spelling.specs.declared.Spelled.the-variants.{Key}
 
 onto-onto : (a b : List ℕ) (line : Line) → onto a (onto b line) ≡ onto (a ++ b) line
 onto-onto a b (key k) = ap key (sym (append-assoc a b k))

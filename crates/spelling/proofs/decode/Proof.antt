@@ -1,10 +1,10 @@
--- `keyslots::decode`: after n turns n bytes are decoded, and the digits that are left stand untouched.
+-- `spelling::decode`: after n turns n bytes are decoded, and the digits that are left stand untouched.
 use Prim.Native.Nat.{_-_}
 use lib.ListN.{length}
-use Rattle.keyslots.proofs.Lines.{Decoded, start, high-stops, low-stops, turn, odd-stops, whole, room}
+use Rattle.spelling.proofs.Lines.{Decoded, start, high-stops, low-stops, turn, odd-stops, whole, room}
 use borrow.Author.Needs.{needs}
-use Rattle.keyslots.proofs.decode.Statement.{statement}
-use Rattle.keyslots.proofs.decode.Tie as tie
+use Rattle.spelling.proofs.decode.Statement.{statement}
+use Rattle.spelling.proofs.decode.Tie as tie
 
 abbrev Inv-loop : tie.InvT-loop
 Inv-loop line₀ n₀ line n = Decoded line₀ line n

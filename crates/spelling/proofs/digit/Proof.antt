@@ -1,9 +1,9 @@
--- `keyslots::digit`: each way out by the tests that led to it.
+-- `spelling::digit`: each way out by the tests that led to it.
 use borrow.Author.Tests.{le-leb, le-ltb, lt-leb, lt-ltb}
-use Rattle.keyslots.specs.Lines.{digitOf}
+use Rattle.spelling.specs.Lines.{digitOf}
 use borrow.Author.Needs.{needs}
-use Rattle.keyslots.proofs.digit.Statement.{statement}
-use Rattle.keyslots.proofs.digit.Tie as tie
+use Rattle.spelling.proofs.digit.Statement.{statement}
+use Rattle.spelling.proofs.digit.Tie as tie
 
 returns : tie.Need-returns
 unfolding digitOf

@@ -1,10 +1,10 @@
--- `ukweribaso::put_outcome`: six pieces, one behind the other.
+-- `printing::put_outcome`: six pieces, one behind the other.
 use mathlib.Core.Path.{_∙_}
 use Rattle.lines.proofs.Texts.{then, spelt-as}
-use Rattle.ukweribaso.specs.Line.{printed}
+use Rattle.printing.specs.Line.{printed}
 use borrow.Author.Needs.{needs}
-use Rattle.ukweribaso.proofs.put_outcome.Statement.{statement}
-use Rattle.ukweribaso.proofs.put_outcome.Tie as tie
+use Rattle.printing.proofs.put_outcome.Statement.{statement}
+use Rattle.printing.proofs.put_outcome.Tie as tie
 
 number-requires : tie.Need-number-requires
 number-requires c κs = search needs

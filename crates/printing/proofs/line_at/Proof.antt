@@ -1,9 +1,9 @@
--- `ukweribaso::line_at`: each early return is one case of the definition.
+-- `printing::line_at`: each early return is one case of the definition.
 use borrow.Author.Tests.{le-ltb, lt-ltb}
-use Rattle.ukweribaso.specs.Line.{lineAt}
+use Rattle.printing.specs.Line.{lineAt}
 use borrow.Author.Needs.{needs}
-use Rattle.ukweribaso.proofs.line_at.Statement.{statement}
-use Rattle.ukweribaso.proofs.line_at.Tie as tie
+use Rattle.printing.proofs.line_at.Statement.{statement}
+use Rattle.printing.proofs.line_at.Tie as tie
 
 slice-aggregate-result : tie.Need-slice-aggregate-result
 slice-aggregate-result c = search needs

@@ -5,10 +5,10 @@ use mathlib.Core.List.{List, [], _∷_, _++_}
 use lib.ListN.{length, take}
 use lib.Dec.{ltb, leb}
 use Rattle.slots.specs.Key.{keySlot}
-use Rattle.keyslots.specs.declared.Spelled.{Spelled}
-use Rattle.keyslots.specs.declared.Spelled.the-variants.{Key, Nothing}
-use Rattle.keyslots.specs.declared.Reply.{Reply}
-use Rattle.keyslots.specs.declared.Reply.the-variants.{Slot, Bad}
+use Rattle.spelling.specs.declared.Spelled.{Spelled}
+use Rattle.spelling.specs.declared.Spelled.the-variants.{Key, Nothing}
+use Rattle.spelling.specs.declared.Reply.{Reply}
+use Rattle.spelling.specs.declared.Reply.the-variants.{Slot, Bad}
 
 -- the value of a lowercase hexadecimal digit, 16 for any other byte
 unfoldable pub digitOf : ℕ → ℕ
