@@ -1,4 +1,4 @@
--- `acks::pass_on` meets its contract: a table rewritten from the front.
+-- `wins::pass_on` meets its contract: a table rewritten from the front.
 use mathlib.Core.Path.{ap, _∙_}
 use mathlib.Core.Bool.{cond}
 use mathlib.Core.Logic.{⊎-elim}
@@ -9,8 +9,8 @@ use lib.ListN.{length, length-set}
 use borrow.Author.Tests.{eq-eqb, ne-eqb}
 use Rattle.tables.proofs.Walks.{Rewritten, rewritten-none, rewritten-all, stored, kept, map-turn}
 use borrow.Author.Needs.{needs}
-use Rattle.acks.proofs.pass_on.Statement.{statement}
-use Rattle.acks.proofs.pass_on.Tie as tie
+use Rattle.wins.proofs.pass_on.Statement.{statement}
+use Rattle.wins.proofs.pass_on.Tie as tie
 
 abbrev Inv-loop : tie.InvT-loop
 Inv-loop slots₀ old me s₀ slots s = Rewritten (λ slot owner. cond (eqb owner old) me owner) slots₀ slots s

@@ -1,8 +1,8 @@
--- `acks::own_role` meets its contract.
+-- `wins::own_role` meets its contract.
 use borrow.Author.Tests.{lt-ltb, le-ltb}
 use borrow.Author.Needs.{needs}
-use Rattle.acks.proofs.own_role.Statement.{statement}
-use Rattle.acks.proofs.own_role.Tie as tie
+use Rattle.wins.proofs.own_role.Statement.{statement}
+use Rattle.wins.proofs.own_role.Tie as tie
 
 returns : tie.Need-returns
 returns c = rw (lt-ltb _ _ (c .if1 .taken))

@@ -1,7 +1,7 @@
--- `acks::take_over` meets its contract.
+-- `wins::take_over` meets its contract.
 use borrow.Author.Needs.{needs}
-use Rattle.acks.proofs.take_over.Statement.{statement}
-use Rattle.acks.proofs.take_over.Tie as tie
+use Rattle.wins.proofs.take_over.Statement.{statement}
+use Rattle.wins.proofs.take_over.Tie as tie
 
 enum-told : tie.Need-enum-told
 enum-told c = search needs

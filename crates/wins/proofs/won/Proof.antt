@@ -1,4 +1,4 @@
--- `acks::won` meets its contract: a number past the records has no record and no old master.
+-- `wins::won` meets its contract: a number past the records has no record and no old master.
 use mathlib.Core.Path.{_≡_, refl, sym, _∙_}
 use mathlib.Core.Bool.{Bool, true, false, cond}
 use mathlib.Core.List.{List}
@@ -16,10 +16,10 @@ use Rattle.state.specs.declared.Node.{Node}
 use Rattle.state.specs.declared.Role.{Role}
 use Rattle.state.specs.declared.Role.the-variants.{Master}
 use Rattle.state.specs.declared.Election.the-variants.{Closed}
-use Rattle.acks.specs.Acks.{winner, promoted, won}
+use Rattle.wins.specs.Wins.{winner, promoted, won}
 use borrow.Author.Needs.{needs}
-use Rattle.acks.proofs.won.Statement.{statement}
-use Rattle.acks.proofs.won.Tie as tie
+use Rattle.wins.proofs.won.Statement.{statement}
+use Rattle.wins.proofs.won.Tie as tie
 
 long : (c : tie.Start) → length (c .args .node .records) ≡ nodeRoom
 long c = sym (length-map (c .args .node .records) _) ∙ c .good .0 .1 .1 .1 .0 .1 .0 .1
