@@ -4,21 +4,18 @@ use mathlib.Core.Bool.{Bool, not, cond}
 use mathlib.Core.List.{List, [], _∷_}
 use lib.Dec.{eqb}
 use Rattle.tables.specs.Checks.{checked}
-use Rattle.tables.specs.Lists.{mapAt}
 use Rattle.ages.specs.Ages.{age, ackTooLate}
 use Rattle.nodesets.specs.NodeSets.{has, added, majority}
 use Rattle.nodesets.specs.declared.NodeSet.{NodeSet}
 use Rattle.answers.specs.declared.Answer.{Answer}
-use Rattle.answers.specs.declared.Answer.the-variants.{Done, Won, NoElection, OtherCandidate, OtherEpoch, NoVoter, AckLate, AckRepeated}
-use Rattle.state.specs.Node.{roleAt}
-use Rattle.state.specs.Changes.{withRole, withConfig, withElection, onRecord}
+use Rattle.answers.specs.declared.Answer.the-variants.{Done, NoElection, OtherCandidate, OtherEpoch, NoVoter, AckLate, AckRepeated}
+use Rattle.state.specs.Changes.{withElection}
 use Rattle.state.specs.Outcomes.{answered, Slotted}
 use Rattle.state.specs.declared.Node.{Node}
-use Rattle.state.specs.declared.Record.{Record}
-use Rattle.state.specs.declared.Role.{Role}
-use Rattle.state.specs.declared.Role.the-variants.{Master, Replica}
 use Rattle.state.specs.declared.Election.{Election}
 use Rattle.state.specs.declared.Election.the-variants.{Closed, Open}
+pub use Rattle.wins.specs.Wins.{passed, winner, won}
+unfoldable pub use Rattle.wins.specs.Wins.{promoted}
 
 -- 32 to 36, for an open election
 abbrev pub ackChecks : Node → ℕ → ℕ → ℕ → ℕ → ℕ → NodeSet → NodeSet → List (Bool × Answer)
@@ -29,21 +26,6 @@ ackChecks n voter candidate epoch running opened voters heard =
     ∷ (ackTooLate (n .timeout) (age (n .clock) opened), AckLate)
     ∷ (has heard voter, AckRepeated)
     ∷ []
-
--- every slot that the old master owned passes; a node that follows none has no old master
-abbrev pub passed : Role → ℕ → List ℕ → List ℕ
-passed Master me slots = slots
-passed (Replica old) me slots = mapAt (λ slot owner. cond (eqb owner old) me owner) slots
-
--- 30: a master with the election's epoch as its configEpoch, and the election is closed
-abbrev pub winner : ℕ → Record → Record
-winner epoch r = withConfig epoch (withRole Master r)
-
-unfoldable pub promoted : ℕ → Node → Node
-promoted epoch n = withElection Closed (onRecord (n .me) (winner epoch) n)
-
-abbrev pub won : Node → List ℕ → ℕ → Slotted
-won n slots epoch = record { outcome = answered (promoted epoch n) Won; slots = passed (roleAt n (n .me)) (n .me) slots }
 
 -- a voter more is heard: 30 when more than half of the set are, else 0
 abbrev pub counted : Node → List ℕ → ℕ → ℕ → NodeSet → NodeSet → Slotted

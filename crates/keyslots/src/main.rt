@@ -1,8 +1,7 @@
 // The slot of each key on standard input: a key a line, in lowercase hexadecimal, answered by its slot or by `bad`.
-ghost use mathlib.Core.Path.{_≡_};
-ghost use Rattle.keyslots.specs.Lines.{digitOf, read, left, Within, replyOf};
 use libc::STDIN_FILENO;
 use lines::Rest;
+use spelling::Reply;
 use tables::Found;
 
 // A line is read whole, so it has a limit: 131,072 digits, a key of 65,536 bytes, and the newline.
@@ -13,74 +12,10 @@ const TEXT: usize = 65536;
 
 const FULL: usize = 65530;
 
-// What a line spells: a key of so many bytes, or none.
-enum Spelled {
-    Key(usize),
-    Nothing,
-}
-
-// What a line is answered.
-enum Reply {
-    Slot(u16),
-    Bad,
-}
-
 // Between two reads: the line that has not ended yet, and whether the input goes on.
 struct Feed {
     rest: Rest,
     going: bool,
-}
-
-// The value of a digit, or 16.
-fn digit(c: u8) -> u8
-    ensures { λ r. ⌜ r ≡ digitOf c ⌝ }
-{
-    if c < b'0' {
-        return 16;
-    }
-    if c <= b'9' {
-        return c - b'0';
-    }
-    if c < b'a' {
-        return 16;
-    }
-    if c <= b'f' {
-        return c - b'a' + 10;
-    }
-    16
-}
-
-// Puts the key that the line spells in the line's place, from its start on.
-fn decode(line: &mut [u8]) -> Spelled
-    ensures { λ r. ⌜ (left r (now (line .exit)) ≡ read (now (line .entry))) × Within r (now (line .exit)) ⌝ }
-{
-    let mut n: usize = 0;
-    while 2 * n + 1 < line.len() {
-        let high = digit(line[2 * n]);
-        let low = digit(line[2 * n + 1]);
-        if high > 15 {
-            return Spelled::Nothing;
-        }
-        if low > 15 {
-            return Spelled::Nothing;
-        }
-        line[n] = high * 16 + low;
-        n += 1;
-    }
-    if 2 * n < line.len() {
-        return Spelled::Nothing;
-    }
-    Spelled::Key(n)
-}
-
-// The answer to a line.
-fn slot_of(line: &mut [u8]) -> Reply
-    ensures { λ r. ⌜ r ≡ replyOf (read (now (line .entry))) ⌝ }
-{
-    let Spelled::Key(n) = decode(line) else {
-        return Reply::Bad;
-    };
-    Reply::Slot(slots::key_slot(&line[..n]))
 }
 
 // The answer to the line that stands between two places of the buffer. One that is too long is no key.
@@ -94,7 +29,7 @@ fn answer_at(buf: &mut [u8], from: usize, to: usize, lost: bool) -> Reply {
     if from > to {
         return Reply::Bad;
     }
-    slot_of(&mut buf[from..to])
+    spelling::slot_of(&mut buf[from..to])
 }
 
 fn wide(x: u16) -> u64 {

@@ -1,12 +1,8 @@
 // The node of document 01's cases: a frame a line on standard input, in lowercase hexadecimal, and for each line the
 // answer, currentEpoch and lastVoteEpoch on standard output.
-ghost use mathlib.Core.Path.{_≡_};
-ghost use Rattle.lines.specs.Texts.{Text, puts};
-ghost use Rattle.ukweribaso.specs.Line.{lineAt, printed};
 use libc::STDIN_FILENO;
 use lines::Rest;
 use state::Node;
-use state::Outcome;
 use tables::Found;
 
 // Entries of the slot table.
@@ -25,43 +21,6 @@ struct Feed {
     node: Node,
     rest: Rest,
     going: bool,
-}
-
-// The line between two places of the buffer. One that was too long to keep is no frame, and so is an empty one, which
-// stands for it.
-fn line_at(buf: &[u8], from: usize, to: usize, lost: bool) -> &[u8]
-    ensures { λ r. ⌜ now r ≡ lineAt (now (buf .entry)) from to lost ⌝ }
-{
-    if lost {
-        return &buf[..0];
-    }
-    if to > buf.len() {
-        return &buf[..0];
-    }
-    if from > to {
-        return &buf[..0];
-    }
-    &buf[from..to]
-}
-
-fn wide(x: u8) -> u64
-    ensures { λ r. ⌜ r ≡ x ⌝ }
-{
-    x as u64
-}
-
-// Adds the line of an outcome.
-fn put_outcome(out: &mut [u8], at: usize, outcome: Outcome) -> usize
-    ensures { λ r. ⌜ record { bytes = now (out .exit); end = r } ≡ puts (record { bytes = now (out .entry); end = at }) (printed outcome) ⌝ }
-{
-    let answer = outcome.answer;
-    let node = outcome.node;
-    let a = lines::put_number(out, at, wide(answers::number(answer)));
-    let b = lines::put(out, a, b' ');
-    let c = lines::put_number(out, b, node.current);
-    let d = lines::put(out, c, b' ');
-    let e = lines::put_number(out, d, node.voted);
-    lines::put(out, e, b'\n')
 }
 
 // Answers every line that ends before `end`; what was looked through already ends at `seen`.
@@ -89,8 +48,13 @@ fn answer_lines(
                 going: true,
             };
         };
-        let outcome = node::frame(here, slots, reports, line_at(buf, from, stop, skip));
-        let text = put_outcome(out, at, outcome);
+        let outcome = node::frame(
+            here,
+            slots,
+            reports,
+            printing::line_at(buf, from, stop, skip),
+        );
+        let text = printing::put_outcome(out, at, outcome);
         at = lines::drained(out, text, FULL);
         here = outcome.node;
         from = stop + 1;
