@@ -55,7 +55,7 @@ fn counted(
     if nodesets::majority(voters, heard) {
         return wins::won(node, slots, epoch);
     }
-    let next = state::with_election(
+    let next = changes::with_election(
         node,
         Election::Open {
             epoch,

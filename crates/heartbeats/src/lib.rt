@@ -17,10 +17,10 @@ use tables::NODES;
 fn heard_of(known: Record, role: Role, config: u64) -> Record
     ensures { λ r. ⌜ r ≡ heardOf role config known ⌝ }
 {
-    let named = state::with_role(known, role);
+    let named = changes::with_role(known, role);
     match role {
         Role::Replica(_) => named,
-        Role::Master => state::with_config(named, state::risen(known.config, config)),
+        Role::Master => changes::with_config(named, changes::risen(known.config, config)),
     }
 }
 
@@ -75,7 +75,7 @@ fn of_master(node: Node, slots: &mut [u16], bitmap: &[u8], sender: u8, config: u
     let own = records::known_of(me, mine);
     if ties(next, own, sender, config) {
         let epoch = next.current + 1;
-        let bumped = state::with_config(mine, epoch);
+        let bumped = changes::with_config(mine, epoch);
         next.records[at] = records::kept_of(me, bumped, mine);
         next.current = epoch;
     }

@@ -65,7 +65,7 @@ fn without(node: Node, slot: u16) -> Node
         j += 1;
         i += 1;
     }
-    state::with_marks(node, kept, j as u16)
+    changes::with_marks(node, kept, j as u16)
 }
 
 // Before which mark a slot's mark stands.
@@ -102,7 +102,7 @@ fn with_mark(node: Node, mark: Mark) -> Node
         marks[i + 1] = moved;
         i += 1;
     }
-    state::with_marks(node, marks, node.marked + 1)
+    changes::with_marks(node, marks, node.marked + 1)
 }
 
 // ---- setting

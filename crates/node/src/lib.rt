@@ -27,7 +27,7 @@ pub fn frame(node: Node, slots: &mut [u16], reports: &mut [u64], line: &[u8]) ->
             Decoded::Good(frame) => {
                 let header = frame.header;
                 let kind = frame.kind;
-                let next = state::arrived(node, header.time, header.epoch);
+                let next = changes::arrived(node, header.time, header.epoch);
                 kinds::by_kind(next, slots, reports, line, header, kind)
             }
         },

@@ -63,8 +63,8 @@ fn opening(node: Node) -> Node
     let epoch = node.current + 1;
     let voters = state::masters(node);
     let heard = nodesets::none();
-    let next = state::with_current(node, epoch);
-    state::with_election(
+    let next = changes::with_current(node, epoch);
+    changes::with_election(
         next,
         Election::Open {
             epoch,
@@ -122,6 +122,6 @@ pub fn open(node: Node, slots: &[u16], time: u64) -> Outcome
     let check = early_refusal(node, slots, time);
     match check {
         Check::Refused(answer) => Outcome { answer, node },
-        Check::Passed => standing(state::with_clock(node, time), slots),
+        Check::Passed => standing(changes::with_clock(node, time), slots),
     }
 }

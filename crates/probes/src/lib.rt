@@ -56,13 +56,13 @@ fn after_probe(node: Node, slots: &[u16], subject: u8, echo: Echo, known: Record
     match echo {
         Echo::Ping => {
             let ping = known.ping;
-            state::with_ping(known, start(node.clock, ping))
+            changes::with_ping(known, start(node.clock, ping))
         }
         Echo::Pong => {
             let role = known.role;
             let old = known.flag;
             let flag = pong_flag(node, slots, subject, role, old);
-            state::with_ping(state::with_flag(known, flag), Moment::Never)
+            changes::with_ping(changes::with_flag(known, flag), Moment::Never)
         }
     }
 }
@@ -122,7 +122,7 @@ pub fn tick(node: Node, reports: &[u64]) -> Node
         let known = next.records[i];
         let role = known.role;
         masters = failure::with_master(masters, k, role);
-        next.records[i] = state::with_flag(known, flag_if_unanswered(next, k, known));
+        next.records[i] = changes::with_flag(known, flag_if_unanswered(next, k, known));
         k += 1;
     }
     let mut s: u16 = 0;
@@ -130,7 +130,7 @@ pub fn tick(node: Node, reports: &[u64]) -> Node
         let i = s as usize;
         let known = next.records[i];
         let flag = known.flag;
-        next.records[i] = state::with_flag(
+        next.records[i] = changes::with_flag(
             known,
             failure::flag_if_signalled(next, masters, reports, s, flag),
         );

@@ -247,7 +247,7 @@ fn follow(node: Node, j: u64, master: u64) -> Node {
     let k = j as usize % tables::NODES;
     let mut next = node;
     let known = next.records[k];
-    next.records[k] = state::with_role(known, Role::Replica(small(master)));
+    next.records[k] = changes::with_role(known, Role::Replica(small(master)));
     next
 }
 

@@ -51,7 +51,7 @@ fn look_at(node: Node, reports: &[u64], subject: u8) -> Node
                 masters = failure::with_master(masters, j, role);
                 j += 1;
             }
-            next.records[k] = state::with_flag(
+            next.records[k] = changes::with_flag(
                 known,
                 failure::flag_if_signalled(next, masters, reports, subject as u16, flag),
             );
@@ -92,7 +92,7 @@ pub fn fail(node: Node, subject: u8) -> Node
     if k < NODES {
         let known = next.records[k];
         let flag = known.flag;
-        next.records[k] = state::with_flag(known, fail_flag(next.clock, flag));
+        next.records[k] = changes::with_flag(known, fail_flag(next.clock, flag));
     }
     next
 }

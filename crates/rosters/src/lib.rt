@@ -12,7 +12,7 @@ use state::Role;
 fn silent(known: Record) -> Record
     ensures { λ r. ⌜ r ≡ silent known ⌝ }
 {
-    state::with_ping(state::with_flag(known, Flag::Pfail), Moment::At(0))
+    changes::with_ping(changes::with_flag(known, Flag::Pfail), Moment::At(0))
 }
 
 // The nodes from 2 on are 62.

@@ -163,7 +163,7 @@ pub fn request(
             match first_newer(next, &configs, slots, bitmap, config) {
                 Found::At(slot) => answer = Answer::Outdated(slot),
                 Found::Nothing => {
-                    let voted = state::with_vote(there, Moment::At(next.clock));
+                    let voted = changes::with_vote(there, Moment::At(next.clock));
                     next.records[at] = records::kept_of(m, voted, there);
                     next.voted = epoch;
                 }

@@ -53,15 +53,15 @@ pub fn won(node: Node, slots: &mut [u16], epoch: u64) -> Outcome
     if me >= tables::NODES {
         return Outcome {
             answer: Answer::Won,
-            node: state::with_election(node, Election::Closed),
+            node: changes::with_election(node, Election::Closed),
         };
     }
     let mut next = node;
     let known = next.records[me];
     take_over(slots, own_role(known, node.me, node.size), node.me);
-    next.records[me] = state::with_config(state::with_role(known, Role::Master), epoch);
+    next.records[me] = changes::with_config(changes::with_role(known, Role::Master), epoch);
     Outcome {
         answer: Answer::Won,
-        node: state::with_election(next, Election::Closed),
+        node: changes::with_election(next, Election::Closed),
     }
 }

@@ -1,7 +1,7 @@
--- `state::arrived` meets its contract.
+-- `changes::arrived` meets its contract.
 use borrow.Author.Needs.{needs}
-use Rattle.state.proofs.arrived.Statement.{statement}
-use Rattle.state.proofs.arrived.Tie as tie
+use Rattle.changes.proofs.arrived.Statement.{statement}
+use Rattle.changes.proofs.arrived.Tie as tie
 
 risen-requires : tie.Need-risen-requires
 risen-requires c κs = search needs

@@ -1,7 +1,7 @@
--- `state::risen` meets its contract.
+-- `changes::risen` meets its contract.
 use borrow.Author.Tests.{le-ltb, lt-ltb}
-use Rattle.state.proofs.risen.Statement.{statement}
-use Rattle.state.proofs.risen.Tie as tie
+use Rattle.changes.proofs.risen.Statement.{statement}
+use Rattle.changes.proofs.risen.Tie as tie
 
 returns : tie.Need-returns
 returns c = simp (lt-ltb _ _ (c .if1 .taken))
