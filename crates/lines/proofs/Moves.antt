@@ -11,11 +11,11 @@ use lib.ListN.{length, take, drop, getD, set, length-drop, length-take}
 use lib.Seq.{paste, paste-zero, paste-suc, length-paste, drop-paste, getD-drop}
 use borrow.Author.Tests.{le-ltb}
 use Rattle.tables.proofs.Walks.{first-within}
-use Rattle.tables.specs.Lists.{firstByte}
+use Rattle.tables.specs.Lists.{firstByte, newline}
 use Rattle.tables.specs.Lists.{firstFrom}
 use Rattle.tables.specs.declared.Found.{Found}
 use Rattle.tables.specs.declared.Found.the-variants.{Nothing, At}
-use Rattle.lines.specs.Lines.{newline, between, onwards, lineEnd, shifted, Kept, unfinished}
+use Rattle.lines.specs.Lines.{between, onwards, lineEnd, shifted, Kept, unfinished}
 
 -- n bytes have moved, and place i is the next
 pub record Moving (was is : List ℕ) (from end n i : ℕ) : Type 0 where

@@ -4,13 +4,10 @@ use mathlib.Core.Bool.{Bool, true, false, cond}
 use mathlib.Core.List.{List, [], _++_}
 use lib.ListN.{length, take, drop}
 use lib.Dec.{ltb}
-use Rattle.tables.specs.Lists.{firstByte}
+use Rattle.tables.specs.Lists.{firstByte, newline}
 use Rattle.tables.specs.declared.Found.{Found}
 use Rattle.tables.specs.declared.Found.the-variants.{Nothing, At}
 use Rattle.lines.specs.declared.Rest.{Rest}
-
-abbrev pub newline : ℕ
-newline = 0x0a
 
 -- what stands between two places
 abbrev pub between : List ℕ → ℕ → ℕ → List ℕ

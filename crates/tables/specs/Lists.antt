@@ -35,6 +35,10 @@ firstAt p xs = firstFrom p 0 xs
 abbrev pub firstByte : ℕ → List ℕ → Found
 firstByte b bytes = firstAt (λ (i x : ℕ). eqb x b) bytes
 
+-- the byte that ends a line
+abbrev pub newline : ℕ
+newline = 0x0a
+
 -- a search found something
 abbrev pub isFound : Found → Bool
 isFound Nothing = false
