@@ -1,0 +1,69 @@
+-- A feed's lines among the calls of demand 3: document 02, [9], and document 01, "The lists of demand 3".
+use mathlib.Core.Path.{_≡_}
+use mathlib.Core.Bool.{true, cond}
+use mathlib.Core.List.{List, [], _∷_, _++_}
+use Prim.Native.Nat.{ℕ}
+use lib.Dec.{eqb}
+use Rattle.tables.specs.Lists.{newline}
+use Rattle.answers.specs.declared.Answer.{Answer}
+use Rattle.state.specs.declared.Node.{Node}
+use Rattle.soundness.specs.Sound.{sound}
+use Rattle.node.specs.Calls.{Tables, frame, outcome}
+use Rattle.scraps.specs.Scraps.{Line, short, long}
+use Rattle.feed.specs.Feed.{Station}
+use Rattle.safety.specs.Demand3.{Roster, Made, stateOf}
+use Rattle.sameness.specs.Sameness.{ActAlike}
+use Rattle.streams.specs.Streams.{onByte, stream}
+
+-- ---- a feed is a list of calls
+
+-- the frame that a line counts as: itself, or in the place of one that is too long an empty one, which is answered alike
+abbrev pub frameFor : Line → List ℕ
+frameFor (short line) = line
+frameFor long = []
+
+-- the call that a byte makes on node v: a newline the frame of the line that it ends, with the tables as they stand; any other
+-- byte none
+abbrev pub made : ℕ → Station → ℕ → List Made
+made v s b = cond (eqb b newline) (record { on = v; call = frame (frameFor (s .line)); lent = record { slots = s .slots; reports = s .reports } } ∷ []) []
+
+-- those of a whole feed, the latest first
+unfoldable pub calls : ℕ → Station → List ℕ → List Made
+calls v s [] = []
+calls v s (b ∷ bs) = calls v (onByte s b .after) bs ++ made v s b
+
+-- what calls answer that are made after others, the first one first
+module _ (r : Roster) (timeouts : ℕ → ℕ) (before : List Made) where
+  unfoldable pub answersTo : List Made → List Answer
+  answersTo [] = []
+  answersTo (m ∷ ms) = answersTo ms ++ (outcome (stateOf r timeouts (ms ++ before) (m .on)) (m .lent) (m .call) .answer ∷ [])
+
+-- A feed that is handed to node v after any list of calls is a list of calls itself, of which demand 3 holds as of every other.
+pub record AListOfCalls (r : Roster) (timeouts : ℕ → ℕ) (before : List Made) (v : ℕ) (s : Station) (bytes : List ℕ) : Type 0 where
+  pub answers : answersTo r timeouts before (calls v s bytes) ≡ stream s bytes .answers
+  pub node : stateOf r timeouts (calls v s bytes ++ before) v ≡ stream s bytes .after .node
+  pub others : (w : ℕ) → (w ≡ v → ⊥) → stateOf r timeouts (calls v s bytes ++ before) w ≡ stateOf r timeouts before w
+
+-- whose state the station has
+abbrev pub FeedsAreCalls : Type 0
+FeedsAreCalls = (r : Roster) (timeouts : ℕ → ℕ) (before : List Made) (v : ℕ) (s : Station) (bytes : List ℕ) → stateOf r timeouts before v ≡ s .node → AListOfCalls r timeouts before v s bytes
+
+-- ---- what holds of calls holds of feeds
+
+-- a sound state stays sound
+abbrev pub FeedsKeepSound : Type 0
+FeedsKeepSound = (s : Station) (bytes : List ℕ) → sound (s .node) ≡ true → sound (stream s bytes .after .node) ≡ true
+
+-- two nodes that no caller can tell apart: neither can one that feeds them
+pub record FedAlike (s t : Station) (bytes : List ℕ) : Type 0 where
+  pub answers : stream s bytes .answers ≡ stream t bytes .answers
+  pub node : ActAlike (stream s bytes .after .node) (stream t bytes .after .node)
+  pub slots : stream s bytes .after .slots ≡ stream t bytes .after .slots
+  pub reports : stream s bytes .after .reports ≡ stream t bytes .after .reports
+  pub line : stream s bytes .after .line ≡ stream t bytes .after .line
+
+abbrev pub withNode : Node → Station → Station
+withNode n s = record { node = n; slots = s .slots; reports = s .reports; line = s .line }
+
+abbrev pub AlikeUnderFeeds : Type 0
+AlikeUnderFeeds = (a b : Node) (s : Station) (bytes : List ℕ) → ActAlike a b → FedAlike (withNode a s) (withNode b s) bytes
