@@ -1,2 +1,3 @@
 pub mod Streams
 pub mod Mangled
+pub mod Calls

@@ -39,20 +39,20 @@ used-up s x u = rw (u .node, u .slots-kept, u .reports-kept)
 pub refused-lines : RefusedLines
 refused-lines = record {
   inside = λ s before line rest f q t.
-    let u = at s before line rest in
-    let x = whole u line in
-    let k : heard (ends x 1) ≡ record { answers = x .outcome .answer ∷ []; after = u } = used-up u x (unchanged u (short line) t) ∙ rw (← f) in
-    let e : stream s (before ++ (line ++ (newline ∷ rest))) ≡ following (stream s before .answers) (following (x .outcome .answer ∷ []) (stream u rest)) =
-    stream-append s before (line ++ (newline ∷ rest)) ∙ ap (following (stream s before .answers)) (a-line u f line rest q ∙ then-of rest k) in
-    let w = stream-append s before rest in
-    record {
-      with-it = ap (λ (h : Heard). h .answers) e;
-      without = ap (λ (h : Heard). h .answers) w;
-      end = ap (λ (h : Heard). h .after) e ∙ sym (ap (λ (h : Heard). h .after) w);
-    };
+      let u = at s before line rest in
+      let x = whole u line in
+      let k : heard (ends x 1) ≡ record { answers = x .outcome .answer ∷ []; after = u } = used-up u x (unchanged u (short line) t) ∙ rw (← f) in
+      let e : stream s (before ++ (line ++ (newline ∷ rest))) ≡ following (stream s before .answers) (following (x .outcome .answer ∷ []) (stream u rest)) =
+      stream-append s before (line ++ (newline ∷ rest)) ∙ ap (following (stream s before .answers)) (a-line u f line rest q ∙ then-of rest k) in
+      let w = stream-append s before rest in
+      record {
+        with-it = ap (λ (h : Heard). h .answers) e;
+        without = ap (λ (h : Heard). h .answers) w;
+        end = ap (λ (h : Heard). h .after) e ∙ sym (ap (λ (h : Heard). h .after) w);
+      };
   begun = λ s line rest q t.
-    let l = grown (s .line) line in
-    line-ends s line rest q ∙ then-of rest (used-up s (onLine (s .node) (s .slots) (s .reports) l) (unchanged s l t));
+      let l = grown (s .line) line in
+      line-ends s line rest q ∙ then-of rest (used-up s (onLine (s .node) (s .slots) (s .reports) l) (unchanged s l t));
 }
 
 -- computed whole

@@ -23,7 +23,7 @@ use Rattle.scraps.specs.Scraps.{room, Line, short, long, longer, grown, upTo, t
 use Rattle.scraps.proofs.Lines.{fits, too-many}
 use Rattle.feed.specs.Feed.{Station, withLine, onLine, ends, after, feeds}
 use Rattle.feed.proofs.Calls as call
-use Rattle.streams.specs.Streams.{Heard, following, then, heard, nothing, onByte, stream, inCalls, inPieces, CutAnywhere, NoNewline, Fresh, whole, LineByLine}
+use Rattle.streams.specs.Streams.{Heard, following, then, heard, nothing, ended, onByte, stream, inCalls, inPieces, CutAnywhere, NoNewline, Fresh, whole, LineByLine}
 
 -- ---- bytes after bytes
 onto : (before : List Answer) {g h : Heard} → g ≡ h → following before g ≡ following before h
@@ -45,6 +45,10 @@ then-of rest e = ap (λ (h : Heard). then h (λ t. stream t rest)) e
 abbrev isNewline : ℕ → ℕ → Bool
 isNewline i x = eqb x newline
 
+-- a byte, by whether it is one
+abbrev pub byTest : Bool → Station → ℕ → Heard
+byTest t s b = cond t (ended s) (nothing (withLine (longer (s .line) b) s))
+
 abbrev pub goesOn : Station → List ℕ → Station
 goesOn s bytes = withLine (grown (s .line) bytes) s
 
@@ -55,7 +59,7 @@ quiet i s (b ∷ bs) e = go (eqb b newline) refl e (λ t f. quiet (suc i) t bs f
   where
     go : (t : Bool) → eqb b newline ≡ t → cond t (At i) (firstFrom isNewline (suc i) bs) ≡ Nothing
         → ((u : Station) → firstFrom isNewline (suc i) bs ≡ Nothing → stream u bs ≡ nothing (goesOn u bs))
-        → then (cond t (heard (ends (onLine (s .node) (s .slots) (s .reports) (s .line)) 1)) (nothing (withLine (longer (s .line) b) s))) (λ u. stream u bs) ≡ nothing (goesOn s (b ∷ bs))
+        → then (byTest t s b) (λ u. stream u bs) ≡ nothing (goesOn s (b ∷ bs))
     go true q f ih = let z : _≡_ {A = ℕ} 0 1 = cc in absurd (omega arith)
     go false q f ih = ih (withLine (longer (s .line) b) s) f
 
@@ -81,9 +85,6 @@ ends-at : (bs : List ℕ) (k : ℕ) → firstByte newline bs ≡ At k → Ends 0
 ends-at bs k e = let r = ends-from 0 bs k e in let z : r .0 ≡ k = omega (arith, r .1) in subst (λ (j : ℕ). Ends 0 bs j) z (r .2)
 
 -- a line and its newline
-abbrev pub ended : Station → Heard
-ended s = heard (ends (onLine (s .node) (s .slots) (s .reports) (s .line)) 1)
-
 pub line-ends : (s : Station) (line rest : List ℕ) → NoNewline line → stream s (line ++ (newline ∷ rest)) ≡ then (ended (goesOn s line)) (λ t. stream t rest)
 unfolding stream
 line-ends s line rest q = stream-append s line (newline ∷ rest) ∙ ap (λ (h : Heard). then h (λ t. stream t (newline ∷ rest))) (quiet 0 s line q)

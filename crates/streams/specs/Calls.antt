@@ -8,12 +8,12 @@ use Rattle.tables.specs.Lists.{newline}
 use Rattle.answers.specs.declared.Answer.{Answer}
 use Rattle.state.specs.declared.Node.{Node}
 use Rattle.soundness.specs.Sound.{sound}
-use Rattle.node.specs.Calls.{Tables, frame, outcome}
+use Rattle.node.specs.Calls.{frame, outcome}
 use Rattle.scraps.specs.Scraps.{Line, short, long}
 use Rattle.feed.specs.Feed.{Station}
 use Rattle.safety.specs.Demand3.{Roster, Made, stateOf}
 use Rattle.sameness.specs.Sameness.{ActAlike}
-use Rattle.streams.specs.Streams.{onByte, stream}
+use Rattle.streams.specs.Streams.{Heard, onByte, stream}
 
 -- ---- a feed is a list of calls
 
@@ -22,10 +22,13 @@ abbrev pub frameFor : Line → List ℕ
 frameFor (short line) = line
 frameFor long = []
 
--- the call that a byte makes on node v: a newline the frame of the line that it ends, with the tables as they stand; any other
--- byte none
+-- it is made on node v, with the tables as they stand
+abbrev pub callOf : ℕ → Station → Made
+callOf v s = record { on = v; call = frame (frameFor (s .line)); lent = record { slots = s .slots; reports = s .reports } }
+
+-- by a newline; any other byte makes none
 abbrev pub made : ℕ → Station → ℕ → List Made
-made v s b = cond (eqb b newline) (record { on = v; call = frame (frameFor (s .line)); lent = record { slots = s .slots; reports = s .reports } } ∷ []) []
+made v s b = cond (eqb b newline) (callOf v s ∷ []) []
 
 -- those of a whole feed, the latest first
 unfoldable pub calls : ℕ → Station → List ℕ → List Made
@@ -55,15 +58,15 @@ abbrev pub FeedsKeepSound : Type 0
 FeedsKeepSound = (s : Station) (bytes : List ℕ) → sound (s .node) ≡ true → sound (stream s bytes .after .node) ≡ true
 
 -- two nodes that no caller can tell apart: neither can one that feeds them
-pub record FedAlike (s t : Station) (bytes : List ℕ) : Type 0 where
-  pub answers : stream s bytes .answers ≡ stream t bytes .answers
-  pub node : ActAlike (stream s bytes .after .node) (stream t bytes .after .node)
-  pub slots : stream s bytes .after .slots ≡ stream t bytes .after .slots
-  pub reports : stream s bytes .after .reports ≡ stream t bytes .after .reports
-  pub line : stream s bytes .after .line ≡ stream t bytes .after .line
+pub record HeardAlike (g h : Heard) : Type 0 where
+  pub answers : g .answers ≡ h .answers
+  pub node : ActAlike (g .after .node) (h .after .node)
+  pub slots : g .after .slots ≡ h .after .slots
+  pub reports : g .after .reports ≡ h .after .reports
+  pub line : g .after .line ≡ h .after .line
 
 abbrev pub withNode : Node → Station → Station
 withNode n s = record { node = n; slots = s .slots; reports = s .reports; line = s .line }
 
-abbrev pub AlikeUnderFeeds : Type 0
-AlikeUnderFeeds = (a b : Node) (s : Station) (bytes : List ℕ) → ActAlike a b → FedAlike (withNode a s) (withNode b s) bytes
+abbrev pub FedAlike : Type 0
+FedAlike = (a b : Node) (s : Station) (bytes : List ℕ) → ActAlike a b → HeardAlike (stream (withNode a s) bytes) (stream (withNode b s) bytes)

@@ -38,9 +38,12 @@ heard c = record { answers = answersOf (c .told); after = c .after }
 abbrev pub nothing : Station → Heard
 nothing s = record { answers = []; after = s }
 
--- ---- the whole feed: a newline ends the line, any other byte makes it longer
+-- ---- the whole feed: a newline ends the line, which is answered; any other byte makes it longer
+abbrev pub ended : Station → Heard
+ended s = heard (ends (onLine (s .node) (s .slots) (s .reports) (s .line)) 1)
+
 abbrev pub onByte : Station → ℕ → Heard
-onByte s b = cond (eqb b newline) (heard (ends (onLine (s .node) (s .slots) (s .reports) (s .line)) 1)) (nothing (withLine (longer (s .line) b) s))
+onByte s b = cond (eqb b newline) (ended s) (nothing (withLine (longer (s .line) b) s))
 
 unfoldable pub stream : Station → List ℕ → Heard
 stream s [] = nothing s
