@@ -1,7 +1,7 @@
 -- What a caller's loop rests on: a call uses no more of its piece than there is, and some of it where it answers a line.
 use mathlib.Core.Path.{_≡_, refl}
 use Prim.Native.Nat.{ℕ, _≤_, _<_}
-use mathlib.Core.List.{List, _∷_}
+use mathlib.Core.List.{List}
 use native.Mathlib.Omega.{arith}
 use lib.ListN.{length}
 use Rattle.tables.specs.Lists.{firstByte, newline}
@@ -10,7 +10,7 @@ use Rattle.tables.specs.declared.Found.the-variants.{Nothing, At}
 use Rattle.tables.proofs.Walks.{first-within}
 use Rattle.answers.specs.declared.Answer.{Answer}
 use Rattle.scraps.specs.Scraps.{upTo, takes}
-use Rattle.feed.specs.declared.Told.the-variants.{NoLine, Answered}
+use Rattle.feed.specs.declared.Told.the-variants.{Answered}
 use Rattle.feed.specs.Feed.{Station, after, feeds}
 
 module _ (s : Station) (piece : List ℕ) where

@@ -7,9 +7,9 @@ use native.Mathlib.Nat.{add-zero}
 use native.Mathlib.Omega.{arith}
 use native.Mathlib.Numerals.{add-one}
 use lib.Dec.{ltb}
-use lib.ListN.{length, take, drop, getD, set, length-append, length-set}
+use lib.ListN.{length, take, getD, set, length-append, length-set}
 use lib.Seq.{take-suc, take-suc-set, take-all, append-snoc, length-take-le}
-use borrow.Author.Tests.{lt-ltb, le-ltb, ltb-true, ltb-false}
+use borrow.Author.Tests.{lt-ltb, le-ltb, ltb-true}
 use Rattle.scraps.specs.declared.Kept.{Kept}
 use Rattle.scraps.specs.Scraps.{room, Line, short, long, partOf, longer, grown}
 

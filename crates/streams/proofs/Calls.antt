@@ -1,7 +1,7 @@
 -- A feed is a list of calls, so that what holds of every list of calls holds of feeds.
 use mathlib.Core.Path.{_≡_, refl, sym, ap, subst, _∙_}
 use mathlib.Core.Bool.{Bool, true, false, cond}
-use mathlib.Core.List.{List, [], _∷_, _++_, append-nil, append-assoc}
+use mathlib.Core.List.{List, [], _∷_, _++_, append-nil, append-assoc, flatten}
 use Prim.Native.Nat.{ℕ}
 use lib.Dec.{eqb}
 use lib.ListN.{getD, drop}
@@ -21,8 +21,8 @@ use Rattle.scraps.specs.Scraps.{Line, short, long}
 use Rattle.feed.specs.Feed.{Station, onLine, ends}
 use Rattle.feed.proofs.Lines.{empty-is-long}
 use Rattle.streams.specs.Streams.{heard, onByte, stream}
-use Rattle.streams.specs.Calls.{frameFor, callOf, made, calls, answersTo, AListOfCalls, FeedsAreCalls, FeedsKeepSound, HeardAlike, FedAlike}
-use Rattle.streams.proofs.Streams.{byTest}
+use Rattle.streams.specs.Calls.{frameFor, callOf, made, calls, answersTo, FeedsAreCalls, FeedsKeepSound, HeardAlike, FedAlike}
+use Rattle.streams.proofs.Streams.{byTest, cut-anywhere}
 
 -- a line is answered as the frame that it counts as
 frame-for : (n : Node) (slots reports : List ℕ) (line : Line) → onFrame n slots reports (frameFor line) ≡ onLine n slots reports line
@@ -66,17 +66,30 @@ module _ (r : Roster) (timeouts : ℕ → ℕ) where
         go true = rw (ne-eqb v w (λ e. g (sym e)))
         go false = refl
 
-pub feeds-are-calls : FeedsAreCalls
+-- a whole feed, byte by byte
+record Bytewise (r : Roster) (timeouts : ℕ → ℕ) (before : List Made) (v : ℕ) (s : Station) (bytes : List ℕ) : Type 0 where
+  pub answers : answersTo r timeouts before (calls v s bytes) ≡ stream s bytes .answers
+  pub node : stateOf r timeouts (calls v s bytes ++ before) v ≡ stream s bytes .after .node
+  pub others : (w : ℕ) → (w ≡ v → ⊥) → stateOf r timeouts (calls v s bytes ++ before) w ≡ stateOf r timeouts before w
+
+bytewise : (r : Roster) (timeouts : ℕ → ℕ) (before : List Made) (v : ℕ) (s : Station) (bytes : List ℕ) → stateOf r timeouts before v ≡ s .node → Bytewise r timeouts before v s bytes
 unfolding calls stream answersTo
-feeds-are-calls r timeouts before v s [] h = record { answers = refl; node = h; others = λ w g. refl }
-feeds-are-calls r timeouts before v s (b ∷ bs) h =
+bytewise r timeouts before v s [] h = record { answers = refl; node = h; others = λ w g. refl }
+bytewise r timeouts before v s (b ∷ bs) h =
     let t = onByte s b .after in
-    let ih = feeds-are-calls r timeouts (made v s b ++ before) v t bs (state-after r timeouts before v s h b) in
+    let ih = bytewise r timeouts (made v s b ++ before) v t bs (state-after r timeouts before v s h b) in
     record {
       answers = answers-append r timeouts before (calls v t bs) (made v s b) ∙ rw (answers-after r timeouts before v s h b, ih .answers);
       node = rw (append-assoc (calls v t bs) (made v s b) before) (ih .node);
       others = λ w g. rw (append-assoc (calls v t bs) (made v s b) before) (ih .others w g ∙ others-stay r timeouts before v s h b w g);
     }
+
+-- and in pieces
+pub feeds-are-calls : FeedsAreCalls
+feeds-are-calls r timeouts before v s pieces h =
+    let k = bytewise r timeouts before v s (flatten pieces) h in
+    let e = cut-anywhere s .pieces pieces in
+    record { answers = rw e (k .answers); node = rw e (k .node); others = k .others }
 
 -- ---- soundness
 

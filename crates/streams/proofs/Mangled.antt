@@ -1,7 +1,6 @@
 -- A line that is refused is as if it had not been sent; one that still reads as a frame is taken as one.
 use mathlib.Core.Path.{_≡_, refl, sym, ap, subst, _∙_}
-use mathlib.Core.List.{List, [], _∷_, _++_}
-use Prim.Native.Nat.{ℕ}
+use mathlib.Core.List.{[], _∷_, _++_}
 use lib.Dec.{T}
 use Rattle.tables.specs.Below.{every}
 use Rattle.tables.specs.Lists.{newline, firstFrom}

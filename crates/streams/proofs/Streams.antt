@@ -19,7 +19,7 @@ use Rattle.frames.specs.declared.Layout.the-variants.{Short, Middle, Long}
 use Rattle.frames.proofs.Lengths.{no-frame}
 use Rattle.refusals.specs.Refusals.{refusals, frameRefusals}
 use Rattle.node.specs.Step.{onFrame}
-use Rattle.scraps.specs.Scraps.{room, Line, short, long, longer, grown, upTo, takes}
+use Rattle.scraps.specs.Scraps.{room, long, longer, grown, upTo, takes}
 use Rattle.scraps.proofs.Lines.{fits, too-many}
 use Rattle.feed.specs.Feed.{Station, withLine, onLine, ends, after, feeds}
 use Rattle.feed.proofs.Calls as call

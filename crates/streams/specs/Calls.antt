@@ -1,7 +1,7 @@
 -- A feed's lines among the calls of demand 3: document 02, [9], and document 01, "The lists of demand 3".
 use mathlib.Core.Path.{_≡_}
 use mathlib.Core.Bool.{true, cond}
-use mathlib.Core.List.{List, [], _∷_, _++_}
+use mathlib.Core.List.{List, [], _∷_, _++_, flatten}
 use Prim.Native.Nat.{ℕ}
 use lib.Dec.{eqb}
 use Rattle.tables.specs.Lists.{newline}
@@ -13,7 +13,7 @@ use Rattle.scraps.specs.Scraps.{Line, short, long}
 use Rattle.feed.specs.Feed.{Station}
 use Rattle.safety.specs.Demand3.{Roster, Made, stateOf}
 use Rattle.sameness.specs.Sameness.{ActAlike}
-use Rattle.streams.specs.Streams.{Heard, onByte, stream}
+use Rattle.streams.specs.Streams.{Heard, onByte, stream, inPieces}
 
 -- ---- a feed is a list of calls
 
@@ -41,15 +41,16 @@ module _ (r : Roster) (timeouts : ℕ → ℕ) (before : List Made) where
   answersTo [] = []
   answersTo (m ∷ ms) = answersTo ms ++ (outcome (stateOf r timeouts (ms ++ before) (m .on)) (m .lent) (m .call) .answer ∷ [])
 
--- A feed that is handed to node v after any list of calls is a list of calls itself, of which demand 3 holds as of every other.
-pub record AListOfCalls (r : Roster) (timeouts : ℕ → ℕ) (before : List Made) (v : ℕ) (s : Station) (bytes : List ℕ) : Type 0 where
-  pub answers : answersTo r timeouts before (calls v s bytes) ≡ stream s bytes .answers
-  pub node : stateOf r timeouts (calls v s bytes ++ before) v ≡ stream s bytes .after .node
-  pub others : (w : ℕ) → (w ≡ v → ⊥) → stateOf r timeouts (calls v s bytes ++ before) w ≡ stateOf r timeouts before w
+-- The calls of a feed, however it is cut, are a list of calls, of which demand 3 holds as of every other: it gives the answers
+-- that the feed gives, leaves node v as the feed does, and every other node alone.
+pub record AListOfCalls (r : Roster) (timeouts : ℕ → ℕ) (before : List Made) (v : ℕ) (s : Station) (pieces : List (List ℕ)) : Type 0 where
+  pub answers : answersTo r timeouts before (calls v s (flatten pieces)) ≡ inPieces s pieces .answers
+  pub node : stateOf r timeouts (calls v s (flatten pieces) ++ before) v ≡ inPieces s pieces .after .node
+  pub others : (w : ℕ) → (w ≡ v → ⊥) → stateOf r timeouts (calls v s (flatten pieces) ++ before) w ≡ stateOf r timeouts before w
 
--- whose state the station has
+-- for a feed that is handed to node v, whose state the station has, after any list of calls
 abbrev pub FeedsAreCalls : Type 0
-FeedsAreCalls = (r : Roster) (timeouts : ℕ → ℕ) (before : List Made) (v : ℕ) (s : Station) (bytes : List ℕ) → stateOf r timeouts before v ≡ s .node → AListOfCalls r timeouts before v s bytes
+FeedsAreCalls = (r : Roster) (timeouts : ℕ → ℕ) (before : List Made) (v : ℕ) (s : Station) (pieces : List (List ℕ)) → stateOf r timeouts before v ≡ s .node → AListOfCalls r timeouts before v s pieces
 
 -- ---- what holds of calls holds of feeds
 

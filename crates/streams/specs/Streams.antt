@@ -10,8 +10,8 @@ use Rattle.tables.specs.declared.Found.the-variants.{Nothing}
 use Rattle.answers.specs.declared.Answer.{Answer}
 use Rattle.state.specs.Outcomes.{Stepped}
 use Rattle.node.specs.Step.{onFrame}
-use Rattle.scraps.specs.Scraps.{room, short, longer, grown}
-use Rattle.feed.specs.Feed.{Station, withLine, Called, goesOn, ends, onLine, feeds}
+use Rattle.scraps.specs.Scraps.{short, longer, grown}
+use Rattle.feed.specs.Feed.{Station, withLine, Called, ends, onLine, feeds}
 use Rattle.feed.specs.declared.Told.{Told}
 use Rattle.feed.specs.declared.Told.the-variants.{NoLine, Answered}
 
