@@ -12,7 +12,7 @@ import random
 from collections import Counter
 from pathlib import Path
 
-from reference import LENGTHS, TOP, Node
+from reference import LENGTHS, LONGEST, TOP, Feed, Node
 
 CRATE = Path(__file__).resolve().parents[2] / "crates" / "ukweribaso"
 
@@ -63,10 +63,12 @@ class Tape:
     def __init__(self, seed):
         self.random = random.Random(seed)
         self.node = Node()
+        self.feed = Feed(self.node)
         self.lines, self.printed, self.seen = [], [], Counter()
 
     def raw(self, line, expected=None):
-        answer = self.node.line(line)
+        answer, used = self.feed.call(line + b"\n")
+        assert used == len(line) + 1
         assert expected is None or answer == expected, (len(self.lines), line[:60], answer, expected)
         self.lines.append(line)
         self.printed.append(f"{answer} {self.node.current} {self.node.last_vote}")
@@ -275,6 +277,19 @@ def odd_lines(t):
     t.raw(good, 0)
 
 
+def longest_lines(t):
+    """Lines around the length from which on one is too long, of digits alone and with one bad character; good frames follow."""
+    good = tick(t.now()).hex().encode()
+    long = heartbeat(2, 0, 0, t.now()).hex().encode()
+    for size in (LONGEST - 1, LONGEST, LONGEST + 1):
+        for line in (long + b"0" * (size - len(long)), b"0" * (size - len(good)) + good):
+            for mangled in (line, b"\r" + line[1:], line[:-1] + b"g"):
+                assert len(mangled) == size
+                t.raw(mangled, 2)
+                t.raw(good, 0)
+        t.raw(long, 0)
+
+
 # ---- at random
 
 
@@ -405,6 +420,19 @@ def the_top(t):
     t.frame(tick(2**48 - 2), 4)
 
 
+SCENES = (example, pending, old_report, votes, pongs, owners, ties, order, odd_lines, longest_lines)
+
+
+def recorded(seed, lines, longs):
+    """A tape with every scene and frames at random, and the input as bytes. Its last line has no newline."""
+    t = Tape(seed)
+    for scene in SCENES:
+        scene(t)
+    at_random(t, lines, longs)
+    the_top(t)
+    return t, b"".join(line + b"\n" for line in t.lines) + tick(2**48 - 1).hex().encode()
+
+
 def main():
     options = argparse.ArgumentParser()
     options.add_argument("--seed", type=int, default=20261115)
@@ -412,12 +440,7 @@ def main():
     options.add_argument("--longs", type=int, default=420)
     options.add_argument("--to", type=Path, default=CRATE)
     o = options.parse_args()
-    t = Tape(o.seed)
-    for scene in (example, pending, old_report, votes, pongs, owners, ties, order, odd_lines):
-        scene(t)
-    at_random(t, o.lines, o.longs)
-    the_top(t)
-    text = b"".join(line + b"\n" for line in t.lines) + tick(2**48 - 1).hex().encode()
+    t, text = recorded(o.seed, o.lines, o.longs)
     (o.to / "stdin").write_bytes(text)
     (o.to / "stdout").write_text("".join(line + "\n" for line in t.printed))
     print(f"{len(t.lines)} lines, {sum(len(x) > 4000 for x in t.lines)} of them long, {len(text)} bytes")

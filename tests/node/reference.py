@@ -1,9 +1,10 @@
-"""A node by document 01, for the cases: the reference that the program `ukweribaso` is compared with.
+"""A node by document 01, for the cases, and its feed by document 02: the reference that the program `ukweribaso` is compared with.
 
-Written from the document and not from the Rattle code: whole lists and dictionaries, one method a kind, no care for speed.
+Written from the documents and not from the Rattle code: whole lists and dictionaries, one method a kind, no care for speed.
 """
 TOP = 2**63 - 1
 UNOWNED = 65535
+LONGEST = 4200  # characters of a line that is not too long
 LENGTHS = {1: 2076, 2: 12, 3: 12, 4: 2076, 5: 20, 6: 12, 7: 12}  # bytes of a frame by kind, the kind included
 
 
@@ -218,12 +219,34 @@ class Node:
     def ack(self, f):
         return 31  # this node is a master and nothing makes it a replica, so no election is ever open
 
-    def printed(self, line):
-        answer = self.line(line)
-        return f"{answer} {self.current} {self.last_vote}"
 
+class Feed:
+    """A node whose lines arrive in pieces: document 02, [9]. Beside the node, what is kept of a line that has not ended yet:
+    its characters, and how many they are. A length above LONGEST says that the line is too long, whatever the characters."""
 
-def answers(data):
-    """What the program prints for its whole input: a last line without a newline gets no answer."""
-    node = Node()
-    return [node.printed(line) for line in data.split(b"\n")[:-1]]
+    def __init__(self, node, kept=b"", length=None):
+        self.node, self.kept = node, kept
+        self.length = len(kept) if length is None else length
+
+    def call(self, piece):
+        """The answer, or None where no line ended; and how many bytes of the piece were used."""
+        part, newline, _ = piece.partition(b"\n")
+        self.kept = self.kept[: self.length] + part
+        self.length += len(part)
+        if not newline:
+            return None, len(part)
+        # 1 and 7 come before, and cannot occur here
+        answer = self.node.line(self.kept) if self.length <= LONGEST else 2
+        self.kept, self.length = b"", 0
+        return answer, len(part) + 1
+
+    def answers(self, pieces):
+        """The answers, as they come, to pieces that are each handed in again until they are used up."""
+        for piece in pieces:
+            while True:
+                answer, used = self.call(piece)
+                piece = piece[used:]
+                if answer is not None:
+                    yield answer
+                if not piece:
+                    break
