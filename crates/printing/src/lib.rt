@@ -1,25 +1,8 @@
-// A line of the node's input, cut out of a buffer, and the line that is printed for its outcome.
+// The line that is printed for an answer.
 ghost use mathlib.Core.Path.{_≡_};
 ghost use Rattle.lines.specs.Texts.{Text, puts};
-ghost use Rattle.printing.specs.Line.{lineAt, printed};
-use state::Outcome;
-
-// The line between two places of the buffer. One that was too long to keep is no frame, and so is an empty one, which
-// stands for it.
-pub fn line_at(buf: &[u8], from: usize, to: usize, lost: bool) -> &[u8]
-    ensures { λ r. ⌜ now r ≡ lineAt (now (buf .entry)) from to lost ⌝ }
-{
-    if lost {
-        return &buf[..0];
-    }
-    if to > buf.len() {
-        return &buf[..0];
-    }
-    if from > to {
-        return &buf[..0];
-    }
-    &buf[from..to]
-}
+ghost use Rattle.printing.specs.Line.{printed};
+use answers::Answer;
 
 fn wide(x: u8) -> u64
     ensures { λ r. ⌜ r ≡ x ⌝ }
@@ -27,16 +10,15 @@ fn wide(x: u8) -> u64
     x as u64
 }
 
-// Adds the line of an outcome.
-pub fn put_outcome(out: &mut [u8], at: usize, outcome: Outcome) -> usize
-    ensures { λ r. ⌜ record { bytes = now (out .exit); end = r } ≡ puts (record { bytes = now (out .entry); end = at }) (printed outcome) ⌝ }
+// Adds the line of an answer, with the currentEpoch and the lastVoteEpoch of the node after it. It takes these two and not
+// the node, which would be copied.
+pub fn put_answer(out: &mut [u8], at: usize, answer: Answer, current: u64, voted: u64) -> usize
+    ensures { λ r. ⌜ record { bytes = now (out .exit); end = r } ≡ puts (record { bytes = now (out .entry); end = at }) (printed answer current voted) ⌝ }
 {
-    let answer = outcome.answer;
-    let node = outcome.node;
     let a = lines::put_number(out, at, wide(answers::number(answer)));
     let b = lines::put(out, a, b' ');
-    let c = lines::put_number(out, b, node.current);
+    let c = lines::put_number(out, b, current);
     let d = lines::put(out, c, b' ');
-    let e = lines::put_number(out, d, node.voted);
+    let e = lines::put_number(out, d, voted);
     lines::put(out, e, b'\n')
 }

@@ -1,43 +1,67 @@
--- `ukweribaso::answer_lines`: each turn looks further on.
-use mathlib.Core.Path.{_≡_, sym, _∙_}
-use Prim.Native.Nat.{_-_, _≤_, _<_}
+-- `ukweribaso::answer_lines`: a call that answers a line uses some of the piece, and no call uses more than there is.
+use mathlib.Core.Path.{_≡_, ap, sym, subst, _∙_}
+use mathlib.Core.List.{List}
+use Prim.Native.Nat.{ℕ, _-_, _≤_, _<_}
 use native.Mathlib.Omega.{arith}
-use lib.ListN.{length}
-use Rattle.lines.proofs.Moves.{ends-ahead}
+use lib.ListN.{length, take, drop, length-take}
+use Rattle.answers.specs.declared.Answer.{Answer}
+use Rattle.feed.specs.declared.Told.the-variants.{Answered}
+use Rattle.feed.specs.Feed.{Station, Called, feeds}
+use Rattle.feed.proofs.Calls.{within, some}
 use borrow.Author.Needs.{needs}
 use Rattle.ukweribaso.proofs.answer_lines.Statement.{statement}
 use Rattle.ukweribaso.proofs.answer_lines.Tie as tie
 
 abbrev Inv-loop : tie.InvT-loop
-Inv-loop slots₀ reports₀ buf₀ out₀ seen end lost here₀ at₀ from₀ look₀ skip₀ slots reports buf out here at from look skip =
-    (length slots ≡ length slots₀) × (length reports ≡ length reports₀) × (length buf ≡ length buf₀) × (length out ≡ length out₀)
+Inv-loop slots₀ reports₀ piece out₀ here₀ rest₀ at₀ from₀ slots reports out here rest at from =
+    (length slots ≡ length slots₀) × (length reports ≡ length reports₀) × (length out ≡ length out₀) × (from ≤ length piece)
 
 abbrev μ-loop : tie.MeasureT-loop
-μ-loop slots₀ reports₀ buf₀ out₀ seen end lost here₀ at₀ from₀ look₀ skip₀ slots reports buf out here at from look skip =
-    end - look
+μ-loop slots₀ reports₀ piece out₀ here₀ rest₀ at₀ from₀ slots reports out here rest at from = length piece - from
 
--- the newline that was found stands ahead, and before the end
-next : (c : tie.After-known-told Inv-loop μ-loop) → let l = c .before .before .before .before .before in
-    (l .loop .look ≤ c .before .stop .given .0 .0) × (c .before .stop .given .0 .0 < l .before .before .before .before .before .args .end)
-next c = ends-ahead _ _ _ _ (sym (c .before .before .before .line-end .ensures) ∙ c .before .stop .given .1)
+-- the piece from a place on
+abbrev onwards : List ℕ → ℕ → List ℕ
+onwards piece from = take (length piece - from) (drop from piece)
+
+-- a call that answered used some of it, and no more than there is
+uses : {x : Called} (s : Station) (piece : List ℕ) (from : ℕ) (a : Answer) → x ≡ feeds s (onwards piece from) → x .told ≡ Answered a → (0 < x .used) × (x .used ≤ length piece - from)
+uses {x} s piece from a e t =
+    let w : x .used ≤ length (onwards piece from) = subst (λ (y : Called). y .used ≤ length (onwards piece from)) (sym e) (within s (onwards piece from)) in (
+      subst (λ (y : Called). 0 < y .used) (sym e) (some s (onwards piece from) a (ap (λ (y : Called). y .told) (sym e) ∙ t)),
+      omega (arith, w, length-take (length piece - from) (drop from piece)),
+    )
+
+used : (c : tie.After-struct-known Inv-loop μ-loop) → let f = c .before .before .before .before .before .before .before .before .before in
+    let l = f .before .before .before .before in
+    (0 < f .feed .result .used) × (f .feed .result .used ≤ length (l .before .before .before .before .before .args .piece .now) - l .loop .from)
+used c =
+    let f = c .before .before .before .before .before .before .before .before .before in
+    let l = f .before .before .before .before in
+    uses _ (l .before .before .before .before .before .args .piece .now) (l .loop .from) _ (f .feed .ensures) (c .before .before .told .given .1)
 
 loop-holds : tie.Need-loop-holds Inv-loop μ-loop
 loop-holds c = search needs
 
-line-end-requires : tie.Need-line-end-requires Inv-loop μ-loop
-line-end-requires c κs = search needs
+sub-feed : tie.Need-sub-feed Inv-loop μ-loop
+sub-feed c = search needs
 
-enum-known-stop : tie.Need-enum-known-stop Inv-loop μ-loop
-enum-known-stop c = search needs
+part-feed-start : tie.Need-part-feed-start Inv-loop μ-loop
+part-feed-start c = search needs
+
+part-feed-end : tie.Need-part-feed-end Inv-loop μ-loop
+part-feed-end c = search needs
+
+feed-requires : tie.Need-feed-requires Inv-loop μ-loop
+feed-requires c κs = search needs
+
+enum-known-told : tie.Need-enum-known-told Inv-loop μ-loop
+enum-known-told c = search needs
 
 enum-told : tie.Need-enum-told Inv-loop μ-loop
 enum-told c = search needs
 
 flush-requires : tie.Need-flush-requires Inv-loop μ-loop
 flush-requires c κs = search needs
-
-unfinished-requires : tie.Need-unfinished-requires Inv-loop μ-loop
-unfinished-requires c κs = search needs
 
 same-length : tie.Need-same-length Inv-loop μ-loop
 same-length c = search needs
@@ -48,35 +72,28 @@ same-length-2 c = search needs
 same-length-3 : tie.Need-same-length-3 Inv-loop μ-loop
 same-length-3 c = search needs
 
-same-length-4 : tie.Need-same-length-4 Inv-loop μ-loop
-same-length-4 c = search needs
-
 returns : tie.Need-returns Inv-loop μ-loop
 returns c = search needs
 
-line-at-requires : tie.Need-line-at-requires Inv-loop μ-loop
-line-at-requires c κs = search needs
+add-from : tie.Need-add-from Inv-loop μ-loop
+add-from c =
+    let l = c .before .before .before .before .before .before .before .before .before .before .before .before .before in
+    omega (arith, used c .1, l .loop .inv, l .before .before .before .before .before .good)
 
-frame-requires : tie.Need-frame-requires Inv-loop μ-loop
-frame-requires c κs = search needs
-
-put-outcome-requires : tie.Need-put-outcome-requires Inv-loop μ-loop
-put-outcome-requires c κs = search needs
+put-answer-requires : tie.Need-put-answer-requires Inv-loop μ-loop
+put-answer-requires c κs = search needs
 
 drained-requires : tie.Need-drained-requires Inv-loop μ-loop
 drained-requires c κs = search needs
 
-add-from : tie.Need-add-from Inv-loop μ-loop
-add-from c = let k = c .before .before .before .before .before .before .before .before .before .before .before .before .before .before .before .before in omega (arith, next k .0, next k .1)
-
-add-look : tie.Need-add-look Inv-loop μ-loop
-add-look c = let k = c .before .before .before .before .before .before .before .before .before .before .before .before .before .before .before .before in omega (arith, next k .0, next k .1)
-
 loop-less : tie.Need-loop-less Inv-loop μ-loop
-loop-less c = let k = c .before .before .before .before .before .before .before .before .before .before .before .before .before .before .before .before in omega (arith, next k .0, next k .1)
+loop-less c = let k = c .before .before .before .before .before .before in omega (arith, used k .0, used k .1)
 
 loop-again : tie.Need-loop-again Inv-loop μ-loop
-loop-again c = search needs
+loop-again c =
+    let k = c .before .before .before .before .before .before in
+    let l = k .before .before .before .before .before .before .before .before .before .before .before .before .before in
+    omega (arith, used k .1, l .loop .inv)
 
 pub answer-lines-spec : {M : Type 1} → statement M
 answer-lines-spec =
@@ -85,21 +102,19 @@ answer-lines-spec =
     Inv-loop
     μ-loop
     loop-holds
-    line-end-requires
-    enum-known-stop
+    sub-feed
+    part-feed-start
+    part-feed-end
+    feed-requires
+    enum-known-told
     enum-told
     flush-requires
-    unfinished-requires
     same-length
     same-length-2
     same-length-3
-    same-length-4
     returns
-    line-at-requires
-    frame-requires
-    put-outcome-requires
-    drained-requires
     add-from
-    add-look
+    put-answer-requires
+    drained-requires
     loop-less
     loop-again)

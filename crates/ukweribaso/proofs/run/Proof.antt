@@ -6,14 +6,17 @@ use Rattle.ukweribaso.proofs.run.Statement.{statement}
 use Rattle.ukweribaso.proofs.run.Tie as tie
 
 abbrev Inv-loop : tie.InvT-loop
-Inv-loop slots₀ reports₀ buf₀ out₀ feed₀ turns₀ slots reports buf out feed turns =
+Inv-loop slots₀ reports₀ buf₀ out₀ held₀ turns₀ slots reports buf out held turns =
     (length slots ≡ length slots₀) × (length reports ≡ length reports₀) × (length buf ≡ length buf₀) × (length out ≡ length out₀)
 
 abbrev μ-loop : tie.MeasureT-loop
-μ-loop slots₀ reports₀ buf₀ out₀ feed₀ turns₀ slots reports buf out feed turns = turns
+μ-loop slots₀ reports₀ buf₀ out₀ held₀ turns₀ slots reports buf out held turns = turns
 
 node-requires : tie.Need-node-requires Inv-loop μ-loop
 node-requires c κs = search needs
+
+none-requires : tie.Need-none-requires Inv-loop μ-loop
+none-requires c κs = search needs
 
 loop-holds : tie.Need-loop-holds Inv-loop μ-loop
 loop-holds c = search needs
@@ -67,6 +70,7 @@ run-spec =
     Inv-loop
     μ-loop
     node-requires
+    none-requires
     loop-holds
     turn-requires
     same-length

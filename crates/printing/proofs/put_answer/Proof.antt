@@ -1,10 +1,10 @@
--- `printing::put_outcome`: six pieces, one behind the other.
+-- `printing::put_answer`: six pieces, one behind the other.
 use mathlib.Core.Path.{_∙_}
 use Rattle.lines.proofs.Texts.{then, spelt-as}
 use Rattle.printing.specs.Line.{printed}
 use borrow.Author.Needs.{needs}
-use Rattle.printing.proofs.put_outcome.Statement.{statement}
-use Rattle.printing.proofs.put_outcome.Tie as tie
+use Rattle.printing.proofs.put_answer.Statement.{statement}
+use Rattle.printing.proofs.put_answer.Tie as tie
 
 number-requires : tie.Need-number-requires
 number-requires c κs = search needs
@@ -44,8 +44,8 @@ returns c =
     let n1 = p1 .before .before .before .before in
     then _ _ _ (then _ _ _ (then _ _ _ (then _ _ _ (then _ _ _ (spelt-as _ (n1 .before .wide .ensures ∙ n1 .before .before .number .ensures) (n1 .put-number .ensures)) (p1 .put .ensures)) (n2 .put-number2 .ensures)) (p2 .put2 .ensures)) (n3 .put-number3 .ensures)) (p3 .put3 .ensures)
 
-pub put-outcome-spec : {M : Type 1} → statement M
-put-outcome-spec =
+pub put-answer-spec : {M : Type 1} → statement M
+put-answer-spec =
     tie.close
     (tie.spec
     number-requires
