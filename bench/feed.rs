@@ -169,7 +169,7 @@ fn main() {
     }
     let streams = [
         ("ticks", vec![tick], 4000),
-        ("a heartbeat to 25 short lines", mix, 2000),
+        ("mixed lines", mix, 2000),
         ("heartbeats", vec![heartbeat], 100),
     ];
     title("a stream of lines in pieces, per line");
