@@ -1,5 +1,5 @@
 // A whole stream of lines fed to a node in pieces of one size, for callers that time it. It is a static library of its own
-// (`rt staticlib feeding`): a second caller of the node's step beside those of `exports` would make both slower.
+// (`rt staticlib feeding`): as a second caller of the node's step beside those of `exports` it would make these slower.
 ghost use mathlib.Core.Path.{_≡_};
 ghost use Prim.Native.Nat.{_≤_};
 ghost use lib.ListN.{length};
