@@ -55,7 +55,11 @@ pub fn compare(
     mut proved: impl FnMut(usize) -> u64,
     mut plain: impl FnMut(usize) -> u64,
 ) {
-    let [ours, theirs] = times(calls, [&mut proved, &mut plain]);
+    row(name, times(calls, [&mut proved, &mut plain]));
+}
+
+/// Both times and the ratio.
+pub fn row(name: &str, [ours, theirs]: [f64; 2]) {
     println!("{name:<40} {ours:>12.1} {theirs:>12.1} {:>8.2}", ours / theirs);
 }
 
