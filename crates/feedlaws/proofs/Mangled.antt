@@ -21,9 +21,9 @@ use Rattle.promises.proofs.Refused.{turned-away-changes-nothing}
 use Rattle.scraps.specs.Scraps.{Line, short, long, grown}
 use Rattle.feed.specs.Feed.{Station, withLine, onLine, ends}
 use Rattle.feed.proofs.Lines.{empty-is-long}
 use Rattle.streams.specs.Streams.{Heard, following, heard, stream, whole}
-use Rattle.streams.specs.Mangled.{at, RefusedLines, StillGood}
+use Rattle.feedlaws.specs.Mangled.{at, RefusedLines, StillGood}
 use Rattle.streams.proofs.Streams.{stream-append, then-of, line-ends, a-line}
 
 -- a line that is refused changes nothing, one that is too long neither
 unchanged : (s : Station) (line : Line) → let x = onLine (s .node) (s .slots) (s .reports) line in T (turnsAway (x .outcome .answer)) → Unchanged (s .node) (s .slots) (s .reports) x

@@ -20,9 +20,9 @@ use Rattle.sameness.specs.Sameness.{ActAlike, LentCall}
 use Rattle.scraps.specs.Scraps.{Line, short, long}
 use Rattle.feed.specs.Feed.{Station, onLine, ends}
 use Rattle.feed.proofs.Lines.{empty-is-long}
 use Rattle.streams.specs.Streams.{heard, onByte, stream}
-use Rattle.streams.specs.Calls.{frameFor, callOf, made, calls, answersTo, FeedsAreCalls, FeedsKeepSound, HeardAlike, FedAlike}
+use Rattle.feedlaws.specs.Calls.{frameFor, callOf, made, calls, answersTo, FeedsAreCalls, FeedsKeepSound, HeardAlike, FedAlike}
 use Rattle.streams.proofs.Streams.{byTest, cut-anywhere}
 
 -- a line is answered as the frame that it counts as
 frame-for : (n : Node) (slots reports : List ℕ) (line : Line) → onFrame n slots reports (frameFor line) ≡ onLine n slots reports line
