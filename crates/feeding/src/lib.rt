@@ -1,10 +1,11 @@
 // A whole stream of lines fed to a node in pieces of one size, for callers that time it. It is a static library of its own
 // (`rt staticlib feeding`): as a second caller of the node's step beside those of `exports` it would make these slower.
 ghost use mathlib.Core.Path.{_≡_};
-ghost use Prim.Native.Nat.{_≤_};
-ghost use lib.ListN.{length};
+ghost use mathlib.Core.List.{foldl};
+ghost use Prim.Native.Nat.{_≤_, _<_};
 ghost use Rattle.cases.specs.Cases.{casesNode};
-ghost use Rattle.feeding.specs.Feeding.{noted, pieceSize, pieceEnd, begun, inPieces, Digested, digested};
+ghost use Rattle.streams.specs.Streams.{answersOf, stream};
+ghost use Rattle.feeding.specs.Feeding.{begun, noted, Digested, digested};
 use feed::Told;
 
 fn wide(x: u8) -> u64
@@ -15,7 +16,7 @@ fn wide(x: u8) -> u64
 
 // The answers so far in one number.
 fn noted(notes: u64, told: Told) -> u64
-    ensures { λ r. ⌜ r ≡ noted notes told ⌝ }
+    ensures { λ r. ⌜ r ≡ foldl noted notes (answersOf told) ⌝ }
 {
     match told {
         Told::NoLine => notes,
@@ -23,9 +24,9 @@ fn noted(notes: u64, told: Told) -> u64
     }
 }
 
-// A size of 0 asks for one piece with all bytes.
+// A size of 0 asks for one piece with all bytes. With pieces of no byte the stream would never end.
 fn piece_size(size: usize, length: usize) -> usize
-    ensures { λ r. ⌜ r ≡ pieceSize size length ⌝ }
+    ensures { λ r. ⌜ (0 < length → 0 < r) ⌝ }
 {
     if size == 0 {
         return length;
@@ -35,8 +36,8 @@ fn piece_size(size: usize, length: usize) -> usize
 
 // Where the piece at hand ends; once that is used up, where the next one does.
 fn piece_end(at: usize, end: usize, size: usize, length: usize) -> usize
-    requires { ⌜ at ≤ length ⌝ }
-    ensures { λ r. ⌜ r ≡ pieceEnd at end size length ⌝ }
+    requires { ⌜ (at < length) × (end ≤ length) × (0 < size) ⌝ }
+    ensures { λ r. ⌜ (at < r) × (r ≤ length) ⌝ }
 {
     if at < end {
         return end;
@@ -48,6 +49,7 @@ fn piece_end(at: usize, end: usize, size: usize, length: usize) -> usize
 }
 
 // A stream to the node of the cases, which starts fresh, in pieces of so many bytes: all its answers, and the epochs after it.
+// These are the same whatever the size is: it decides how many calls are timed.
 #[no_mangle]
 pub extern "C" fn ukweribaso_feed(
     slots: &mut [u16],
@@ -55,7 +57,7 @@ pub extern "C" fn ukweribaso_feed(
     bytes: &[u8],
     size: usize,
 ) -> u64
-    ensures { λ r. ⌜ record { digest = r; slots = now (slots .exit); reports = now (reports .exit) } ≡ digested (inPieces (length (now (bytes .entry))) (pieceSize size (length (now (bytes .entry)))) (begun casesNode (now (slots .entry)) (now (reports .entry))) (now (bytes .entry))) ⌝ }
+    ensures { λ r. ⌜ record { digest = r; slots = now (slots .exit); reports = now (reports .exit) } ≡ digested (stream (begun casesNode (now (slots .entry)) (now (reports .entry))) (now (bytes .entry))) ⌝ }
 {
     let part = piece_size(size, bytes.len());
     let mut here = cases::node();
