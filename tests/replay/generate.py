@@ -6,15 +6,17 @@
 The reference beside this file plays each line as it is written, so that frames carry what their sender knows, times and
 epochs lie near what the receiver remembers, and acks mostly follow grants. The network between the nodes has faults: frames
 are lost, come twice, come late (with the time at which they come, or with the old one), are malformed, or are forged in a
-real node's name. Some lines do not fit. The same seed and count give the same file. The count is about the number of lines.
+real node's name. Some come by a serial bridge, in pieces that are cut anywhere, with mangled bytes and lines that are too
+long. Some lines of the file do not fit. The same seed and count give the same file. The count is about the number of lines.
 """
 import random
+import re
 import sys
 from pathlib import Path
 
 sys.dont_write_bytecode = True  # nothing is left behind in the repository
 sys.path.insert(0, str(Path(__file__).resolve().parent))
-from reference import FORMS, TOP, Run, bitmap, node01, slot_of  # noqa: E402
+from reference import FORMS, LONGEST, TOP, Run, bitmap, slot_of  # noqa: E402
 
 TAGS = [b"foo", b"bar", b"{house12}:phone", b"{house12}:second", b"house41", b"123456789", b"a}b{c", b"foo{}{x}", b"foo{{bar}}zap"]
 ODD_NUMBERS = ["00", "007", "99", "100", "255", "256", "600000", "600001", "16383", "16384", "65535", "65536", "281474976710655"]
@@ -38,6 +40,7 @@ class Tape:
         self.lines = []
         self.granted = []  # voter, candidate, epoch
         self.late = []  # frames on their way: after which line they come, to whom, digits and slots
+        self.wires = {}  # node -> what its bridge has not handed over yet
 
     # ---- writing
 
@@ -49,8 +52,15 @@ class Tape:
             raw = r.choice((b"  ", b"\t", b"\r")) + raw.replace(b" ", r.choice((b"  ", b"\t", b" \t ", b"\r")))
         if r.random() < 0.04:
             raw += r.choice((b"\r", b" ", b" # why", b"#", b"\t#\t# open 0 0"))
+        self.put_as_it_is(raw)
+
+    def put_as_it_is(self, raw):
+        """The reference plays it, and the votes that it tells of are remembered. A line's calls are all on one node."""
         self.lines.append(raw)
-        return self.run.line(len(self.lines), raw)
+        told = "\n".join(self.run.line(len(self.lines), raw))
+        for epoch, candidate in re.findall(r"  vote of epoch (\d+) granted to node (\d+)", told):
+            voter = re.match(r"\d+ node (\d+)", told)[1]
+            self.granted.append((int(voter), int(candidate), int(epoch)))
 
     def frame(self, to, digits, slots=None):
         """A frame is sent: it comes, comes twice, comes later, or never."""
@@ -74,10 +84,14 @@ class Tape:
             self.deliver(to, digits, slots)
 
     def deliver(self, to, digits, slots=None):
-        """A frame comes; a bitmap is put as ranges, or now and then all in digits."""
+        """A frame comes; a bitmap is put as ranges, or now and then all in digits. Or the frame is handed to the bridge."""
         r = self.random
+        ranges = stretches(slots or [])
+        if r.random() < 0.15:
+            whole = digits.encode() + (b"" if slots is None else bitmap(ranges))
+            self.wires[to] = self.wires.get(to, b"") + mangled(r, whole) + b"/"
+            return self.hand_over(to)
         if slots is not None:
-            ranges = stretches(slots)
             if r.random() < 0.06 or len(ranges) > 60:
                 digits += bitmap(ranges).decode()
             else:
@@ -85,16 +99,21 @@ class Tape:
                 digits += " claims" + "".join(f" {x[0]}-{x[-1]}" if len(x) > 1 or r.random() < 0.1 else f" {x[0]}" for x in ranges)
         if r.random() < 0.02:
             digits = spoiled(r, digits)
-        out = self.put(f"frame {to} {digits}")
-        if out and ": 10 granted" in out[0]:
-            f = node01.parse(self.last_line())
-            self.granted.append((to, f["candidate"], f["current"]))
+        self.put(f"frame {to} {digits}")
 
-    def last_line(self):
-        """The frame of the last line, as the node got it."""
-        words = self.lines[-1].split(b"#")[0].split()
-        claims = [range(int(w.split(b"-")[0]), int(w.split(b"-")[-1]) + 1) for w in words[4:]]
-        return words[2] + (bitmap(claims) if len(words) > 3 else b"")
+    def hand_over(self, to):
+        """What a node's bridge has, all of it or some, in pieces that are cut anywhere; now and then an empty one."""
+        r = self.random
+        wire = self.wires.get(to, b"")
+        stays = r.randrange(len(wire) + 1) if r.random() < 0.3 else 0
+        size = max(len(wire) // 8, r.choice((5, 30, 200, 2000, 4000, 4000, 4150)))
+        while len(wire) > stays:
+            piece = wire[: r.choice((r.randrange(size), size, size))]
+            self.put(b"piece %d %s" % (to, piece))
+            wire = wire[len(piece) :]
+        self.wires[to] = wire
+        if r.random() < 0.1:
+            self.put(f"piece {to}")
 
     # ---- what to write
 
@@ -152,6 +171,15 @@ def spoiled(r, digits):
     place = r.randrange(min(len(head), 60))
     head = r.choice((head[:place] + r.choice("0123456789abcdefAFg") + head[place + 1 :], head[:-1], head[:-2], head + "0", head + "00", head[:place] or "0"))
     return head + blank + rest
+
+
+def mangled(r, line):
+    """Now and then some bytes are others, too many or too few; a slash is a newline that the bridge made up."""
+    while r.random() < 0.12:
+        place = r.randrange(len(line) + 1) if r.random() < 0.5 else r.randrange(min(60, len(line) + 1))
+        odd = bytes([r.choice(b"0123456789abcdef" * 2 + b"AFgz~/\x7f\x80\xff")])
+        line = r.choice((line[:place] + odd + line[place + 1 :], line[:place] + odd + line[place + 1 :], line[:place] + odd + line[place:], line[:place] + line[place + 1 :]))
+    return line
 
 
 # ---- frames
@@ -306,6 +334,24 @@ def entries(t):
     return t.put(f"slots {f'{first}-{last}' if last > first else first} of {owner} for {r.choice((node.me, node.me, 'all'))}")
 
 
+def bridge(t):
+    """More of what a node's bridge has. Before it, now and then, a line about as long as may be, or far longer."""
+    r, node = t.random, t.node()
+    if r.random() < 0.4:
+        long = r.choice((4199, 4200, 4201, 4201, r.randrange(4100, 4300), r.randrange(4201, 14000)))
+        line = bytes(r.choice(b"0123456789abcdef") for _ in range(long)) if r.random() < 0.5 else b"07" * (long // 2) + b"z" * (long % 2)
+        t.wires[node.me] = t.wires.get(node.me, b"") + line + b"/" + b"07000000" + wide(t.time(node)).encode() + b"/"
+    t.hand_over(node.me)
+
+
+def long_line(t):
+    """A line of the file that is about as long as may be, or far longer."""
+    r, node = t.random, t.node()
+    line = r.choice((b"# why", b"", b"open %d %d # " % (node.me, t.time(node)), b"piece %d 07" % node.me, b"key %d foo" % node.me, b"frame %d 0700" % node.me))
+    long = r.choice((LONGEST - 1, LONGEST, LONGEST, LONGEST + 1, LONGEST + 1, 2 * LONGEST, r.randrange(LONGEST, 150_000)))
+    t.put_as_it_is(line + r.choice((b"0", b" ", b"a")) * (long - len(line)))
+
+
 def bad(t):
     """A line that fits or nearly fits, with one word other, too many or too few; or nothing at all."""
     r = t.random
@@ -314,7 +360,7 @@ def bad(t):
     word = r.choice(list(FORMS)).decode()
     good = {
         "roster": "roster 3", "replica": "replica 1 of 0", "timeout": "timeout 0 1000", "slots": "slots 5-9 of 0 for all", "report": "report 0 0 0 5",
-        "frame": "frame 0 07000000000000000000 claims 5 7-9", "open": "open 0 5", "migrate": "migrate 0 5 to 1", "import": "import 0 5 from 1",
+        "frame": "frame 0 07000000000000000000 claims 5 7-9", "piece": "piece 0 07/", "open": "open 0 5", "migrate": "migrate 0 5 to 1", "import": "import 0 5 from 1",
         "unmark": "unmark 0 5", "key": "key 0 foo absent asking", "hexkey": "hexkey 0 666f6f present asking",
     }[word].split()
     place = r.randrange(1, len(good))
@@ -407,6 +453,7 @@ def generate(seed, count):
     begin(t)
     plain = [heartbeat] * 14 + [report] * 8 + [fail] * 3 + [probe] * 14 + [tick] * 14 + [request] * 8 + [ack] * 10 + [forged] * 3
     plain += [opening] * 6 + [mark] * 8 + [key] * 12 + [entries] * 4 + [bad] * 6 + [failover] * 3
+    plain += [bridge] * 3 + [long_line]
     while len(t.lines) < count:
         t.random.choice(plain)(t)
         t.deliver_late()
@@ -414,7 +461,7 @@ def generate(seed, count):
             many_marks(t)
     if t.random.random() < 0.3:
         the_top(t)
-    return b"".join(line + b"\n" for line in t.lines)
+    return b"\n".join(t.lines) + t.random.choice((b"\n", b""))
 
 
 if __name__ == "__main__":

@@ -1,5 +1,6 @@
 #!/usr/bin/env python3
-"""What the program `replay` must print: a second opinion, written from docs/REPLAY.md and document 01.
+"""What the program `replay` must print: a second opinion, written from docs/REPLAY.md, document 01 and, for the feed in
+pieces, document 02, [9].
 
     python3 tests/replay/reference.py FILE..
 
@@ -7,7 +8,7 @@ Each file is a run, and has the line `run FILE` before it and an empty line betw
 is named on standard error alone. Without a file, standard input is the one run, with no line before it.
 
 Not written from the Rattle code. The frames' rules come from tests/node/reference.py; what that node never meets (elections
-of its own, marks, redirections, other rosters) and the run's format stand here. Bad lines, calls and summary come out in the
+of its own, marks, redirections, other rosters, a feed in pieces) and the run's format stand here. Bad lines, calls and summary come out in the
 order of the file, so a difference shows at the line that made it.
 """
 import binascii
@@ -68,6 +69,8 @@ NAMES = {
     36: "heard already",
 }
 
+LONGEST = 4200  # characters of a line, of a run's file as of a feed
+
 
 # ---- a node of any number in any roster
 
@@ -86,6 +89,7 @@ class Member(node01.Node):
         self.voted_at = [None] * size
         self.election = None  # epoch, time of opening, set of voters, those heard
         self.marks = {}  # slot -> ("migrating" or "importing", peer)
+        self.kept = b""  # of its feed: the line that has not ended yet, all of it
 
     def newer(self, f):
         """The lowest claimed slot whose owner is newer than the request: what 17 names."""
@@ -222,6 +226,7 @@ FORMS = {
     b"slots": ("slots RANGE of OWNER for NODE|all", [slot_range, either("of"), OWNER, either("for"), node_or_all], []),
     b"report": ("report NODE SUBJECT REPORTER TIME", [NODE, NODE, NODE, TIME], []),
     b"frame": ("frame NODE DIGITS [claims RANGE..]", [NODE, any_word], [either("claims")] + [slot_range] * MOST_WORDS),
+    b"piece": ("piece NODE [CHARACTERS]", [NODE], [any_word]),
     b"open": ("open NODE TIME", [NODE, TIME], []),
     b"migrate": ("migrate NODE SLOT to PEER", [NODE, SLOT, either("to"), NODE], []),
     b"import": ("import NODE SLOT from PEER", [NODE, SLOT, either("from"), NODE], []),
@@ -265,6 +270,8 @@ class Run:
 
     def line(self, place, raw):
         """What is printed for a line. `raw` is bytes without the newline."""
+        if len(raw) > LONGEST:
+            return [f"{place} bad line, nothing done: it is too long"]
         words = [w for w in re.split(rb"[\x00-\x20]", raw.split(b"#")[0]) if w]
         if not words:
             return []
@@ -279,7 +286,19 @@ class Run:
             return []
         self.called = True
         node = self.nodes[values[0]]
-        said, notices = self.call(node, name, values)
+        if name != "piece":
+            return self.told(place, node, *self.call(node, name, values))
+        piece = b"".join(values[1:]).replace(b"/", b"\n")
+        lines = []
+        while True:  # a call takes what is up to a newline, and an empty piece is handed over too
+            taken, newline, piece = piece.partition(b"\n")
+            node.kept += taken
+            lines += self.told(place, node, *self.fed(node, bool(newline)))
+            if not piece:
+                return lines
+
+    @staticmethod
+    def told(place, node, said, notices):
         return [f"{place} node {node.me}: {said}; currentEpoch {node.current}, lastVoteEpoch {node.last_vote}"] + ["  " + n for n in notices]
 
     def check(self, name, values):
@@ -331,6 +350,16 @@ class Run:
         else:
             answer = node.mark(values[1], "migrating" if name == "migrate" else "importing", values[3])
         return f"{answer} {NAMES[answer]}", []
+
+    def fed(self, node, ended):
+        """What a call of the feed comes to: the line is answered at its newline, and used up whatever the answer is."""
+        line = node.kept
+        if ended:
+            node.kept = b""
+            return self.frame(node, line) if len(line) <= LONGEST else (f"2 {NAMES[2]}", [])
+        if len(line) > LONGEST:
+            return "no line yet, it is too long already", []
+        return f"no line yet, {len(line)} characters are kept", []
 
     def frame(self, node, line):
         flags = list(node.flag)

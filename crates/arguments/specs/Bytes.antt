@@ -1,9 +1,10 @@
--- The bytes that a line hands on: the bitmap that its ranges claim, and a key.
+-- The bytes that a line hands on: the bitmap that its ranges claim, a key, and a piece of a feed.
 use Prim.Native.Nat.{ℕ, zero, suc, _+_, _-_, _*_, _/_, _%_}
 use mathlib.Core.Bool.{cond}
-use mathlib.Core.List.{List, [], _∷_, _++_}
+use mathlib.Core.List.{List, [], _∷_, _++_, map}
 use lib.ListN.{length, getD}
-use Rattle.tables.specs.Lists.{mapAt}
+use lib.Dec.{eqb}
+use Rattle.tables.specs.Lists.{mapAt, newline}
 use Rattle.hex.specs.Hex.{bytesAt}
 use Rattle.words.specs.Numbers.{between}
 
@@ -35,3 +36,13 @@ digitsBelow table (suc j) = digitsBelow table j ++ (digitOf table j ∷ [])
 -- a key that is given in hexadecimal
 unfoldable pub keyBytes : List ℕ → List ℕ
 keyBytes digits = bytesAt digits 0 (length digits / 2)
+
+-- a piece of a feed: the characters as they stand, and a newline for each slash
+abbrev pub slash : ℕ
+slash = 0x2f
+
+abbrev pub handed : ℕ → ℕ
+handed b = cond (eqb b slash) newline b
+
+unfoldable pub pieceBytes : List ℕ → List ℕ
+pieceBytes word = map handed word

@@ -1,11 +1,11 @@
 // What a line of a run's file hands on (docs/REPLAY.md): slots given to an owner, a claimed bitmap, the node that a frame names,
-// and the bytes of a key.
+// and the bytes of a key and of a feed's piece.
 ghost use mathlib.Core.Path.{_≡_};
 ghost use Prim.Native.Nat.{_<_};
 ghost use Rattle.tables.specs.Sizes.{slotCount};
 ghost use Rattle.lines.specs.Texts.{Text, puts};
 ghost use Rattle.hex.specs.Hex.{byteAt};
-ghost use Rattle.arguments.specs.Bytes.{chosen, given, bit, nibble, digitOf, digitsBelow, keyBytes};
+ghost use Rattle.arguments.specs.Bytes.{chosen, given, bit, nibble, digitOf, digitsBelow, keyBytes, handed, pieceBytes};
 
 // The digits of a bitmap that claims slots of a table.
 const DIGITS: usize = tables::SLOTS as usize / 4;
@@ -84,6 +84,29 @@ pub fn key(digits: &[u8], out: &mut [u8]) -> usize
     let mut i: usize = 0;
     while i < count {
         end = lines::put(out, end, hex::byte_at(digits, i));
+        i += 1;
+    }
+    end
+}
+
+// A character of a piece: a `/` stands for a newline.
+fn handed(character: u8) -> u8
+    ensures { λ r. ⌜ r ≡ handed character ⌝ }
+{
+    if character == b'/' {
+        return b'\n';
+    }
+    character
+}
+
+// The bytes of a piece of a feed, from the front of a buffer on.
+pub fn piece(word: &[u8], out: &mut [u8]) -> usize
+    ensures { λ r. ⌜ record { bytes = now (out .exit); end = r } ≡ puts (record { bytes = now (out .entry); end = 0 }) (pieceBytes (now (word .entry))) ⌝ }
+{
+    let mut end: usize = 0;
+    let mut i: usize = 0;
+    while i < word.len() {
+        end = lines::put(out, end, handed(word[i]));
         i += 1;
     }
     end

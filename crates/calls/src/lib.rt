@@ -9,7 +9,7 @@ use words::Fit;
 // place 0, and the last letter goes for all places from there on. Then the form as it is shown, up to a ~.
 //   z SIZE     N a node of the roster     M such a node, another than at place 1     a such a node, or `all`
 //   n a node's number     o a slot or an owner     t TIME     T a timeout     r a range     R a range, or nothing more
-//   w any word     h a key in hexadecimal     p `present` or `absent`     . nothing more
+//   w any word     W any word, or nothing more     h a key in hexadecimal     p `present` or `absent`     . nothing more
 //   0 to 5 the words `of`, `for`, `to`, `from`, `claims` or nothing more, `asking` or nothing more
 const FORMS: [u8; SIZE] = *b"\
     -z......roster SIZE~                                    \
@@ -18,6 +18,7 @@ const FORMS: [u8; SIZE] = *b"\
     -r0o1a..slots RANGE of OWNER for NODE|all~              \
     -NNNt...report NODE SUBJECT REPORTER TIME~              \
     -Nw4RRRRframe NODE DIGITS [claims RANGE..]~             \
+    -NW.....piece NODE [CHARACTERS]~                        \
     -Nt.....open NODE TIME~                                 \
     -No2n...migrate NODE SLOT to PEER~                      \
     -No3n...import NODE SLOT from PEER~                     \
@@ -27,7 +28,7 @@ const FORMS: [u8; SIZE] = *b"\
 
 const WIDTH: usize = 56;
 
-const SIZE: usize = 672;
+const SIZE: usize = 728;
 
 // The forms' rows. From FRAME on they are calls; the others write a roster or its tables.
 pub const ROSTER: u8 = 0;
@@ -42,20 +43,22 @@ pub const REPORT: u8 = 4;
 
 pub const FRAME: u8 = 5;
 
-pub const OPEN: u8 = 6;
+pub const PIECE: u8 = 6;
 
-pub const MIGRATE: u8 = 7;
+pub const OPEN: u8 = 7;
 
-pub const IMPORT: u8 = 8;
+pub const MIGRATE: u8 = 8;
 
-pub const UNMARK: u8 = 9;
+pub const IMPORT: u8 = 9;
 
-pub const KEY: u8 = 10;
+pub const UNMARK: u8 = 10;
 
-pub const HEXKEY: u8 = 11;
+pub const KEY: u8 = 11;
+
+pub const HEXKEY: u8 = 12;
 
 // One more than the last form's row: the first word is no form's name.
-const COUNT: u8 = 12;
+const COUNT: u8 = 13;
 
 // Nothing but blanks and a comment.
 pub const SILENT: u8 = 254;
@@ -189,7 +192,7 @@ fn fitting(word: &[u8], kind: u8, node: u64) -> Fit {
         b'a' => whose(word),
         b'h' => fitted(is_hex(word), 0),
         b'p' => presence(word),
-        b'w' => fitted(true, 0),
+        b'W' | b'w' => fitted(true, 0),
         _ => words::number(word, kind),
     }
 }
@@ -197,7 +200,7 @@ fn fitting(word: &[u8], kind: u8, node: u64) -> Fit {
 // The line may end before a place of that kind.
 fn may_end(kind: u8) -> bool {
     match kind {
-        b'.' | b'4' | b'5' | b'R' => true,
+        b'.' | b'4' | b'5' | b'R' | b'W' => true,
         _ => false,
     }
 }

@@ -3,8 +3,8 @@ use answers::Answer;
 use answers::Tally;
 use nodesets::NodeSet;
 use routing::Redirect;
+use scraps::Kept;
 use state::Election;
-use state::Flag;
 use state::Role;
 use tables::Found;
 
@@ -36,63 +36,67 @@ const ASK: u8 = 43;
 
 const MOVED: u8 = 44;
 
+const KEPT: u8 = 45;
+
+const LONG: u8 = 46;
+
 // what people look for, below it, a flag's text by the flag,
-const FLAG: u8 = 45;
+const FLAG: u8 = 47;
 
-const OPENED: u8 = 48;
+const OPENED: u8 = 50;
 
-const GRANTED: u8 = 49;
+const GRANTED: u8 = 51;
 
-const WON: u8 = 50;
+const WON: u8 = 52;
 
-const BOUND: u8 = 51;
+const BOUND: u8 = 53;
 
-const REBOUND: u8 = 52;
+const REBOUND: u8 = 54;
 
-const STALE: u8 = 53;
+const STALE: u8 = 55;
 
 // a line that does not fit or cannot be done,
-pub const BAD: u8 = 54;
+pub const BAD: u8 = 56;
 
-pub const NO_FORM: u8 = 55;
+pub const NO_FORM: u8 = 57;
 
-pub const UNFIT: u8 = 56;
+pub const UNFIT: u8 = 58;
 
-pub const NO_ROSTER: u8 = 57;
+pub const NO_ROSTER: u8 = 59;
 
-pub const STANDS: u8 = 58;
+pub const STANDS: u8 = 60;
 
-pub const BEGUN: u8 = 59;
+pub const BEGUN: u8 = 61;
 
-pub const NO_NODE: u8 = 60;
+pub const NO_NODE: u8 = 62;
 
-pub const TOO_LONG: u8 = 61;
+pub const TOO_LONG: u8 = 63;
 
 // the summary, a flagged node's text by the flag,
-pub const SUMMARY: u8 = 62;
+pub const SUMMARY: u8 = 64;
 
-const MASTER: u8 = 63;
+const MASTER: u8 = 65;
 
-const REPLICA: u8 = 64;
+const REPLICA: u8 = 66;
 
-const OWN: u8 = 65;
+const OWN: u8 = 67;
 
-const FLAGGED: u8 = 66;
+const FLAGGED: u8 = 68;
 
-const WINNER: u8 = 69;
+const WINNER: u8 = 71;
 
-const AGAIN: u8 = 70;
+const AGAIN: u8 = 72;
 
-const NO_WINS: u8 = 71;
+const NO_WINS: u8 = 73;
 
 // and what stands in lists.
-const MEMBER: u8 = 72;
+const MEMBER: u8 = 74;
 
-const NONE: u8 = 73;
+const NONE: u8 = 75;
 
-pub const QUOTE: u8 = 74;
+pub const QUOTE: u8 = 76;
 
-pub const END: u8 = 75;
+pub const END: u8 = 77;
 
 // ---- texts
 
@@ -136,7 +140,7 @@ fn put_text(out: &mut [u8], at: usize, texts: &[u8], note: Note) -> usize {
 }
 
 // All texts: the answers' first, then the others. Each goes up to a ~.
-const TEXTS: [u8; 1467] = *b"done~\
+const TEXTS: [u8; 1538] = *b"done~\
     a table has the wrong length~\
     not a frame~\
     no such node~\
@@ -181,6 +185,8 @@ const TEXTS: [u8; 1467] = *b"done~\
     serve~\
     ASK % %~\
     MOVED % %~\
+    no line yet, % characters are kept~\
+    no line yet, it is too long already~\
     \x20 node % is no longer flagged\n~\
     \x20 node % is now PFAIL\n~\
     \x20 node % is now FAIL\n~\
@@ -276,6 +282,14 @@ pub fn of_redirect(redirect: Redirect) -> Note {
     }
 }
 
+// What is kept of a feed's line that has not ended yet.
+pub fn of_kept(kept: Kept) -> Note {
+    if kept.length > scraps::ROOM {
+        return text(LONG, 0, 0);
+    }
+    text(KEPT, kept.length as u64, 0)
+}
+
 // What is told of a node after a line: the line's number and the node's, what is said, END if nothing is, the node's epochs,
 // what came with a frame's answer, the election if one was opened, and the flags' numbers before and after.
 pub struct Told {
@@ -322,15 +336,6 @@ pub fn put_told(out: &mut [u8], at: usize, told: Told) -> usize {
 }
 
 // ---- below it
-
-// A flag's number: its place among the texts.
-pub fn of_flag(flag: Flag) -> u8 {
-    match flag {
-        Flag::Clear => 0,
-        Flag::Pfail => 1,
-        Flag::Fail(_) => 2,
-    }
-}
 
 // The nodes whose flag is another one, from the flags' numbers before and after.
 fn put_changes(

@@ -7,16 +7,16 @@ use Rattle.replay.proofs.play.Statement.{statement}
 use Rattle.replay.proofs.play.Tie as tie
 
 abbrev Inv-loop2 : tie.InvT-loop2
-Inv-loop2 buf slots₀ reports₀ out₀ nodes₀ run₀ source turns heard last k₀ slots reports out nodes run k = (length slots ≡ 262144) × (length reports ≡ 65536) × (length out ≡ 65536) × (length nodes ≡ 16)
+Inv-loop2 buf slots₀ reports₀ out₀ seats₀ run₀ source turns call last k₀ slots reports out seats run k = (length slots ≡ 262144) × (length reports ≡ 65536) × (length out ≡ 65536) × (length seats ≡ 16)
 
 abbrev μ-loop2 : tie.MeasureT-loop2
-μ-loop2 buf slots₀ reports₀ out₀ nodes₀ run₀ source turns heard last k₀ slots reports out nodes run k = last - k
+μ-loop2 buf slots₀ reports₀ out₀ seats₀ run₀ source turns call last k₀ slots reports out seats run k = last - k
 
 abbrev Inv-loop : tie.InvT-loop
-Inv-loop buf₀ slots₀ reports₀ out₀ nodes₀ run₀ source₀ turns₀ buf slots reports out nodes run source turns = (length buf ≡ length buf₀) × (length slots ≡ 262144) × (length reports ≡ 65536) × (length out ≡ 65536) × (length nodes ≡ 16)
+Inv-loop buf₀ slots₀ reports₀ out₀ seats₀ run₀ source₀ turns₀ buf slots reports out seats run source turns = (length buf ≡ length buf₀) × (length slots ≡ 262144) × (length reports ≡ 65536) × (length out ≡ 65536) × (length seats ≡ 16)
 
 abbrev μ-loop : tie.MeasureT-loop
-μ-loop buf₀ slots₀ reports₀ out₀ nodes₀ run₀ source₀ turns₀ buf slots reports out nodes run source turns = turns
+μ-loop buf₀ slots₀ reports₀ out₀ seats₀ run₀ source₀ turns₀ buf slots reports out seats run source turns = turns
 
 pub play-spec : {M : Type 1} → statement M
 play-spec =
@@ -25,7 +25,7 @@ play-spec =
     (λ c. (refl, length-replicate {A = ℕ} 262144 65535, length-replicate {A = ℕ} 65536 0, length-replicate {A = ℕ} 65536 0, refl))
     (λ c κs. search needs) (λ c κs. search needs) (λ c κs. search needs) (λ c. search needs) (λ c κs. search needs)
     (λ c. search needs) (λ c. search needs) (λ c. search needs) (λ c. search needs) (λ c. search needs)
-    (λ c. search needs) (λ c κs. search needs) (λ c κs. search needs) (λ c. search needs) (λ c. search needs)
+    (λ c. search needs) (λ c κs. search needs) (λ c. search needs) (λ c. search needs)
     (λ c. search needs) (λ c. search needs) (λ c. (search needs, search needs, search needs, search needs))
     (λ c. search needs) (λ c κs. search needs) (λ c. search needs)
     (λ c. (search needs, search needs, search needs, search needs, search needs)) (λ c. search needs)

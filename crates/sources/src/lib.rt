@@ -1,0 +1,142 @@
+// The lines of a run's file, which is read in pieces: docs/REPLAY.md.
+use scraps::Kept;
+
+// Where lines are read from, and the next one.
+pub struct Source {
+    pub fd: i32,
+    // The line, if one was found; else what is kept of it, and there is more to read.
+    pub found: bool,
+    pub kept: Kept,
+    // Where the rest of the buffer starts, and where what was read ends.
+    pub rest: usize,
+    pub end: usize,
+    // How many lines there were.
+    pub count: u64,
+    // The input has ended, and then all its lines were found.
+    pub closed: bool,
+    pub ended: bool,
+}
+
+// A buffer whose first bytes were read already.
+pub fn opened(fd: i32, end: usize) -> Source {
+    Source {
+        fd,
+        found: false,
+        kept: scraps::none(),
+        rest: 0,
+        end,
+        count: 0,
+        closed: false,
+        ended: false,
+    }
+}
+
+// One more; a file with more lines than can be counted is numbered from 0 again.
+fn next(count: u64) -> u64 {
+    if count < u64::MAX {
+        return count + 1;
+    }
+    0
+}
+
+// A place so much further on.
+pub fn further(place: usize, used: usize) -> usize {
+    if used > usize::MAX - place {
+        return usize::MAX;
+    }
+    place + used
+}
+
+// What is kept of the line so far: nothing where the last one has ended.
+fn begun(past: Source) -> Kept {
+    let kept = past.kept;
+    if past.found {
+        return scraps::none();
+    }
+    kept
+}
+
+// What was kept of it since.
+fn kept_on(past: Source, kept: Kept, used: usize) -> Source {
+    Source {
+        fd: past.fd,
+        found: false,
+        kept,
+        rest: further(past.rest, used),
+        end: past.end,
+        count: past.count,
+        closed: past.closed,
+        ended: false,
+    }
+}
+
+// The line has ended.
+fn line_found(past: Source) -> Source {
+    let mut here = past;
+    here.found = true;
+    here.count = next(past.count);
+    here
+}
+
+// Nothing more comes. A last line without a newline is a line too.
+fn close(past: Source) -> Source {
+    let kept = past.kept;
+    let mut here = past;
+    here.closed = true;
+    if kept.length > 0 {
+        return line_found(here);
+    }
+    here.ended = true;
+    here
+}
+
+// Reads once. Where reading fails the reason is named, and what came before it counts.
+fn more(buf: &mut [u8], past: Source) -> Source {
+    let mut here = past;
+    here.rest = 0;
+    here.end = 0;
+    if past.closed {
+        here.ended = true;
+        return here;
+    }
+    let got = libc::read(past.fd, buf);
+    if got < 0 {
+        os::fail(b"reading");
+        return close(here);
+    }
+    if got == 0 {
+        return close(here);
+    }
+    here.end = io::count(got, buf);
+    here
+}
+
+// The next line, or what is read once to find it. A line of which some was handed over is the next one again.
+pub fn next_line(buf: &mut [u8], past: Source, handed: usize) -> Source {
+    if handed > 0 {
+        return past;
+    }
+    let gathered = scraps::gather(begun(past), part(buf, past.rest, past.end));
+    let kept = gathered.kept;
+    let here = kept_on(past, kept, gathered.used);
+    if gathered.ended {
+        return line_found(here);
+    }
+    more(buf, here)
+}
+
+// What stands between two places of the buffer.
+pub fn part(buf: &[u8], from: usize, to: usize) -> &[u8] {
+    if to > buf.len() {
+        return &buf[..0];
+    }
+    if from > to {
+        return &buf[..0];
+    }
+    &buf[from..to]
+}
+
+// The characters that are kept of a line; none of one that is too long.
+pub fn characters(bytes: &[u8; scraps::ROOM], length: usize) -> &[u8] {
+    part(bytes, 0, length)
+}
