@@ -1,5 +1,7 @@
 // A run of `replay`, line by line (docs/REPLAY.md): what it has come to, what is wrong with a line, which nodes a line is about.
+ghost use mathlib.Core.Path.{_≡_};
 ghost use Prim.Native.Nat.{_≤_};
+ghost use Rattle.runs.specs.Runs.{nobody, reached, remembered, theEnd};
 use calls::Call;
 use tellings::Note;
 use tellings::Told;
@@ -23,7 +25,9 @@ pub struct Run {
 }
 
 // Before the roster's line.
-pub fn nobody() -> Run {
+pub fn nobody() -> Run
+    ensures { λ r. ⌜ r ≡ nobody ⌝ }
+{
     Run {
         size: 0,
         begun: false,
@@ -36,7 +40,9 @@ pub fn nobody() -> Run {
 
 // What was told reaches to `at`, and may be a win; so much of a piece was handed over. Each node wins at most once: nothing
 // makes a master a replica in its own eyes.
-pub fn told(past: Run, at: usize, told: Told, k: usize, handed: usize) -> Run {
+pub fn told(past: Run, at: usize, told: Told, k: usize, handed: usize) -> Run
+    ensures { λ r. ⌜ r ≡ remembered (told .answer) (told .config) k (reached at handed past) ⌝ }
+{
     let answer = told.answer;
     let won = past.won;
     let mut run = past;
@@ -58,7 +64,9 @@ pub fn told(past: Run, at: usize, told: Told, k: usize, handed: usize) -> Run {
 }
 
 // The call that the input's end is.
-pub fn summary() -> Call {
+pub fn summary() -> Call
+    ensures { λ r. ⌜ r ≡ theEnd ⌝ }
+{
     Call {
         form: SUMMARY,
         wrong: 0,

@@ -1,4 +1,9 @@
 // The lines of a run's file, which is read in pieces: docs/REPLAY.md.
+ghost use mathlib.Core.Path.{_≡_};
+ghost use mathlib.Core.Bool.{false, cond};
+ghost use mathlib.Core.List.{[]};
+ghost use Rattle.scraps.specs.Scraps.{short, partOf};
+ghost use Rattle.sources.specs.Sources.{further, next, between, soFar, readAs, takesOn};
 use scraps::Kept;
 
 // Where lines are read from, and the next one.
@@ -18,7 +23,9 @@ pub struct Source {
 }
 
 // A buffer whose first bytes were read already.
-pub fn opened(fd: i32, end: usize) -> Source {
+pub fn opened(fd: i32, end: usize) -> Source
+    ensures { λ r. ⌜ (readAs r ≡ record { line = short []; found = false; rest = 0; count = 0 }) × (r .end ≡ end) ⌝ }
+{
     Source {
         fd,
         found: false,
@@ -32,7 +39,9 @@ pub fn opened(fd: i32, end: usize) -> Source {
 }
 
 // One more; a file with more lines than can be counted is numbered from 0 again.
-fn next(count: u64) -> u64 {
+fn next(count: u64) -> u64
+    ensures { λ r. ⌜ r ≡ next count ⌝ }
+{
     if count < u64::MAX {
         return count + 1;
     }
@@ -40,7 +49,9 @@ fn next(count: u64) -> u64 {
 }
 
 // A place so much further on.
-pub fn further(place: usize, used: usize) -> usize {
+pub fn further(place: usize, used: usize) -> usize
+    ensures { λ r. ⌜ r ≡ further place used ⌝ }
+{
     if used > usize::MAX - place {
         return usize::MAX;
     }
@@ -48,7 +59,9 @@ pub fn further(place: usize, used: usize) -> usize {
 }
 
 // What is kept of the line so far: nothing where the last one has ended.
-fn begun(past: Source) -> Kept {
+fn begun(past: Source) -> Kept
+    ensures { λ r. ⌜ partOf r ≡ soFar (past .found) (partOf (past .kept)) ⌝ }
+{
     let kept = past.kept;
     if past.found {
         return scraps::none();
@@ -56,26 +69,32 @@ fn begun(past: Source) -> Kept {
     kept
 }
 
-// What was kept of it since.
-fn kept_on(past: Source, kept: Kept, used: usize) -> Source {
-    Source {
-        fd: past.fd,
-        found: false,
-        kept,
-        rest: further(past.rest, used),
-        end: past.end,
-        count: past.count,
-        closed: past.closed,
-        ended: false,
+// How many lines there were, with one that may have ended.
+fn counted(count: u64, ended: bool) -> u64
+    ensures { λ r. ⌜ r ≡ cond ended (next count) count ⌝ }
+{
+    if ended {
+        return next(count);
     }
+    count
 }
 
-// The line has ended.
-fn line_found(past: Source) -> Source {
-    let mut here = past;
-    here.found = true;
-    here.count = next(past.count);
-    here
+// The line with what the rest of the buffer has of it.
+fn taken(past: Source, rest: &[u8]) -> Source
+    ensures { λ r. ⌜ readAs r ≡ takesOn (readAs past) (now (rest .entry)) ⌝ }
+{
+    let gathered = scraps::gather(begun(past), rest);
+    let kept = gathered.kept;
+    Source {
+        fd: past.fd,
+        found: gathered.ended,
+        kept,
+        rest: further(past.rest, gathered.used),
+        end: past.end,
+        count: counted(past.count, gathered.ended),
+        closed: past.closed,
+        ended: past.ended,
+    }
 }
 
 // Nothing more comes. A last line without a newline is a line too.
@@ -84,7 +103,9 @@ fn close(past: Source) -> Source {
     let mut here = past;
     here.closed = true;
     if kept.length > 0 {
-        return line_found(here);
+        here.found = true;
+        here.count = next(past.count);
+        return here;
     }
     here.ended = true;
     here
@@ -116,17 +137,17 @@ pub fn next_line(buf: &mut [u8], past: Source, handed: usize) -> Source {
     if handed > 0 {
         return past;
     }
-    let gathered = scraps::gather(begun(past), part(buf, past.rest, past.end));
-    let kept = gathered.kept;
-    let here = kept_on(past, kept, gathered.used);
-    if gathered.ended {
-        return line_found(here);
+    let here = taken(past, part(buf, past.rest, past.end));
+    if here.found {
+        return here;
     }
     more(buf, here)
 }
 
 // What stands between two places of the buffer.
-pub fn part(buf: &[u8], from: usize, to: usize) -> &[u8] {
+pub fn part(buf: &[u8], from: usize, to: usize) -> &[u8]
+    ensures { λ r. ⌜ now r ≡ between (now (buf .entry)) from to ⌝ }
+{
     if to > buf.len() {
         return &buf[..0];
     }
