@@ -43,3 +43,7 @@ takenOn s t = record { line = t .line; found = t .ended; rest = further (s .rest
 
 abbrev pub takesOn : Reading → List ℕ → Reading
 takesOn s piece = takenOn s (takes (soFar (s .found) (s .line)) piece)
+
+-- from what the buffer has of it
+abbrev pub inBuffer : Source → List ℕ → Reading
+inBuffer s buf = takesOn (readAs s) (between buf (s .rest) (s .end))

@@ -1,9 +1,10 @@
 // The lines of a run's file, which is read in pieces: docs/REPLAY.md.
 ghost use mathlib.Core.Path.{_≡_};
-ghost use mathlib.Core.Bool.{false, cond};
+ghost use mathlib.Core.Bool.{true, false, cond};
 ghost use mathlib.Core.List.{[]};
+ghost use Prim.Native.Nat.{_<_};
 ghost use Rattle.scraps.specs.Scraps.{short, partOf};
-ghost use Rattle.sources.specs.Sources.{further, next, between, soFar, readAs, takesOn};
+ghost use Rattle.sources.specs.Sources.{further, next, between, soFar, readAs, takesOn, inBuffer};
 use scraps::Kept;
 
 // Where lines are read from, and the next one.
@@ -133,7 +134,9 @@ fn more(buf: &mut [u8], past: Source) -> Source {
 }
 
 // The next line, or what is read once to find it. A line of which some was handed over is the next one again.
-pub fn next_line(buf: &mut [u8], past: Source, handed: usize) -> Source {
+pub fn next_line(buf: &mut [u8], past: Source, handed: usize) -> Source
+    ensures { λ r. ⌜ (0 < handed → r ≡ past) × (handed ≡ 0 → inBuffer past (now (buf .entry)) .found ≡ true → readAs r ≡ inBuffer past (now (buf .entry))) ⌝ }
+{
     if handed > 0 {
         return past;
     }
@@ -158,6 +161,8 @@ pub fn part(buf: &[u8], from: usize, to: usize) -> &[u8]
 }
 
 // The characters that are kept of a line; none of one that is too long.
-pub fn characters(bytes: &[u8; scraps::ROOM], length: usize) -> &[u8] {
+pub fn characters(bytes: &[u8; scraps::ROOM], length: usize) -> &[u8]
+    ensures { λ r. ⌜ now r ≡ between (now (bytes .entry)) 0 length ⌝ }
+{
     part(bytes, 0, length)
 }
