@@ -359,7 +359,7 @@ class Run:
             return self.frame(node, line) if len(line) <= LONGEST else (f"2 {NAMES[2]}", [])
         if len(line) > LONGEST:
             return "no line yet, it is too long already", []
-        return f"no line yet, {len(line)} characters are kept", []
+        return f"no line yet, characters kept: {len(line)}", []
 
     def frame(self, node, line):
         flags = list(node.flag)

@@ -140,7 +140,7 @@ fn put_text(out: &mut [u8], at: usize, texts: &[u8], note: Note) -> usize {
 }
 
 // All texts: the answers' first, then the others. Each goes up to a ~.
-const TEXTS: [u8; 1538] = *b"done~\
+const TEXTS: [u8; 1535] = *b"done~\
     a table has the wrong length~\
     not a frame~\
     no such node~\
@@ -185,7 +185,7 @@ const TEXTS: [u8; 1538] = *b"done~\
     serve~\
     ASK % %~\
     MOVED % %~\
-    no line yet, % characters are kept~\
+    no line yet, characters kept: %~\
     no line yet, it is too long already~\
     \x20 node % is no longer flagged\n~\
     \x20 node % is now PFAIL\n~\
