@@ -1,5 +1,8 @@
 // The node of document 01's cases: a frame a line on standard input, in lowercase hexadecimal, and for each line the
 // answer, currentEpoch and lastVoteEpoch on standard output. The input is fed in pieces, as they are read.
+ghost use mathlib.Core.Path.{_≡_};
+ghost use Rattle.feed.specs.Feed.{station};
+ghost use Rattle.streams.specs.Streams.{stream};
 use feed::Told;
 use libc::STDIN_FILENO;
 use scraps::Kept;
@@ -23,8 +26,8 @@ struct Held {
     going: bool,
 }
 
-// Answers every line that ends in the piece. An answer uses its line up, so that nothing is kept then; to say so here saves
-// copying back what a call leaves.
+// Answers every line that ends in the piece, and leaves what its bytes leave one by one. An answer uses its line up, so
+// that nothing is kept then; to say so here saves copying back what a call leaves.
 fn answer_lines(
     node: Node,
     kept: Kept,
@@ -32,7 +35,9 @@ fn answer_lines(
     reports: &mut [u64],
     piece: &[u8],
     out: &mut [u8],
-) -> Held {
+) -> Held
+    ensures { λ r. ⌜ station (r .node) (now (slots .exit)) (now (reports .exit)) (r .kept) ≡ stream (station node (now (slots .entry)) (now (reports .entry)) kept) (now (piece .entry)) .after ⌝ }
+{
     let mut here = node;
     let mut rest = kept;
     let mut at: usize = 0;
