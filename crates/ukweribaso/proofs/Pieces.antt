@@ -1,10 +1,15 @@
 -- A piece that is handed on until it is used up: after every call, what is left of it comes to what the whole piece comes to.
 use mathlib.Core.Path.{_≡_, refl, sym, ap, _∙_}
+use mathlib.Core.Bool.{true}
 use mathlib.Core.List.{List, [], append-nil}
 use Prim.Native.Nat.{ℕ, _+_, _-_, _≤_, _<_}
 use native.Mathlib.Omega.{arith}
+use borrow.Author.Tests.{leb-true}
+use lib.IntN.{ℤ, pos, negsuc}
+use lib.Signed.{leZ}
 use lib.ListN.{length, take, drop, length-take, length-drop}
 use lib.Seq.{take-all, drop-drop, drop-length}
+use Rattle.io.specs.Counts.{clamped}
 use Rattle.tables.specs.Lists.{firstByte, newline}
 use Rattle.tables.specs.declared.Found.{Found}
 use Rattle.tables.specs.declared.Found.the-variants.{Nothing, At}
@@ -73,3 +78,19 @@ module _ {x : Called} (s : Station) (piece : List ℕ) (from : ℕ) (e : x ≡ f
   pub finished : x .told ≡ NoLine → stream s (drop from piece) .after ≡ x .after
   unfolding stream
   finished q = left ∙ rw (ap (λ (y : Called). y .used) e ∙ to-the-end s (onwards piece from) (told q), drop-length (onwards piece from))
+
+-- ---- what was read
+
+-- a read that failed, or found the end, counts no byte
+none-counted : (z : ℤ) (most : ℕ) → leZ z (pos 0) ≡ true → clamped z most ≡ 0
+none-counted (pos k) most q = let h = leb-true k 0 q in omega (arith, h)
+none-counted (negsuc k) most q = refl
+
+-- by what the read answered; the code holds it in bits, which say the same number
+module _ (s : Station) (buf : List ℕ) (z : ℤ) {y : ℤ} (held : y ≡ z) where
+  pub nothing-read : leZ y (pos 0) ≡ true → s ≡ stream s (take (clamped z (length buf)) buf) .after
+  unfolding stream
+  nothing-read q = rw (none-counted z (length buf) (ap (λ (x : ℤ). leZ x (pos 0)) (sym held) ∙ q))
+
+  pub read : {t : Station} (n : ℕ) → n ≡ clamped y (length buf) → t ≡ stream s (take n buf) .after → t ≡ stream s (take (clamped z (length buf)) buf) .after
+  read n q e = e ∙ ap (λ (m : ℕ). stream s (take m buf) .after) (q ∙ ap (λ (x : ℤ). clamped x (length buf)) held)
