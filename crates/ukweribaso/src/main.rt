@@ -1,5 +1,10 @@
 // The node of document 01's cases: a frame a line on standard input, in lowercase hexadecimal, and for each line the
 // answer, currentEpoch and lastVoteEpoch on standard output. The input is fed in pieces, as they are read.
+ghost use mathlib.Core.Path.{_≡_};
+ghost use lib.ListN.{length, take};
+ghost use Rattle.io.specs.Counts.{clamped};
+ghost use Rattle.feed.specs.Feed.{station};
+ghost use Rattle.streams.specs.Streams.{stream};
 use feed::Told;
 use libc::STDIN_FILENO;
 use scraps::Kept;
@@ -23,8 +28,8 @@ struct Held {
     going: bool,
 }
 
-// Answers every line that ends in the piece. An answer uses its line up, so that nothing is kept then; to say so here saves
-// copying back what a call leaves.
+// Answers every line that ends in the piece, and leaves what its bytes leave one by one. An answer uses its line up, so
+// that nothing is kept then; to say so here saves copying back what a call leaves.
 fn answer_lines(
     node: Node,
     kept: Kept,
@@ -32,7 +37,9 @@ fn answer_lines(
     reports: &mut [u64],
     piece: &[u8],
     out: &mut [u8],
-) -> Held {
+) -> Held
+    ensures { λ r. ⌜ station (r .node) (now (slots .exit)) (now (reports .exit)) (r .kept) ≡ stream (station node (now (slots .entry)) (now (reports .entry)) kept) (now (piece .entry)) .after ⌝ }
+{
     let mut here = node;
     let mut rest = kept;
     let mut at: usize = 0;
@@ -57,6 +64,29 @@ fn answer_lines(
     }
 }
 
+// Feeds the node what was read: as many bytes of the buffer as the read answered, and none where it failed.
+fn take_in(
+    node: Node,
+    kept: Kept,
+    slots: &mut [u16],
+    reports: &mut [u64],
+    buf: &[u8],
+    got: isize,
+    out: &mut [u8],
+) -> Held
+    ensures { λ r. ⌜ station (r .node) (now (slots .exit)) (now (reports .exit)) (r .kept) ≡ stream (station node (now (slots .entry)) (now (reports .entry)) kept) (take (clamped got (length (now (buf .entry)))) (now (buf .entry))) .after ⌝ }
+{
+    if got <= 0 {
+        return Held {
+            node,
+            kept,
+            going: false,
+        };
+    }
+    let n = io::count(got, buf);
+    answer_lines(node, kept, slots, reports, &buf[..n], out)
+}
+
 // Reads once, and feeds the node what came.
 fn turn(
     node: Node,
@@ -67,15 +97,7 @@ fn turn(
     out: &mut [u8],
 ) -> Held {
     let got = libc::read(STDIN_FILENO, buf);
-    if got <= 0 {
-        return Held {
-            node,
-            kept,
-            going: false,
-        };
-    }
-    let n = io::count(got, buf);
-    answer_lines(node, kept, slots, reports, &buf[..n], out)
+    take_in(node, kept, slots, reports, buf, got, out)
 }
 
 // A proved loop has to end, and nothing says that the input does, so it counts down from a number that no run uses up.

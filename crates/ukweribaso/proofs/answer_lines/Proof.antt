@@ -1,35 +1,23 @@
--- `ukweribaso::answer_lines`: a call that answers a line uses some of the piece, and no call uses more than there is.
-use mathlib.Core.Path.{_≡_, ap, sym, subst, _∙_}
-use mathlib.Core.List.{List}
-use Prim.Native.Nat.{ℕ, _-_, _≤_, _<_}
+-- `ukweribaso::answer_lines`: a call that answers a line uses some of the piece, and no call uses more than there is. What is
+-- left of the piece comes to what the whole piece comes to.
+use mathlib.Core.Path.{_≡_, refl, sym, _∙_}
+use Prim.Native.Nat.{_-_, _≤_, _<_}
 use native.Mathlib.Omega.{arith}
-use lib.ListN.{length, take, drop, length-take}
-use Rattle.answers.specs.declared.Answer.{Answer}
-use Rattle.feed.specs.declared.Told.the-variants.{Answered}
-use Rattle.feed.specs.Feed.{Station, Called, feeds}
-use Rattle.feed.proofs.Calls.{within, some}
+use lib.ListN.{length, drop}
+use Rattle.feed.specs.Feed.{station}
+use Rattle.streams.specs.Streams.{stream}
 use borrow.Author.Needs.{needs}
+use Rattle.ukweribaso.proofs.Pieces.{uses, answered, finished}
 use Rattle.ukweribaso.proofs.answer_lines.Statement.{statement}
 use Rattle.ukweribaso.proofs.answer_lines.Tie as tie
 
 abbrev Inv-loop : tie.InvT-loop
 Inv-loop slots₀ reports₀ piece out₀ here₀ rest₀ at₀ from₀ slots reports out here rest at from =
     (length slots ≡ length slots₀) × (length reports ≡ length reports₀) × (length out ≡ length out₀) × (from ≤ length piece)
+    × (stream (station here₀ slots₀ reports₀ rest₀) piece .after ≡ stream (station here slots reports rest) (drop from piece) .after)
 
 abbrev μ-loop : tie.MeasureT-loop
 μ-loop slots₀ reports₀ piece out₀ here₀ rest₀ at₀ from₀ slots reports out here rest at from = length piece - from
-
--- the piece from a place on
-abbrev onwards : List ℕ → ℕ → List ℕ
-onwards piece from = take (length piece - from) (drop from piece)
-
--- a call that answered used some of it, and no more than there is
-uses : {x : Called} (s : Station) (piece : List ℕ) (from : ℕ) (a : Answer) → x ≡ feeds s (onwards piece from) → x .told ≡ Answered a → (0 < x .used) × (x .used ≤ length piece - from)
-uses {x} s piece from a e t =
-    let w : x .used ≤ length (onwards piece from) = subst (λ (y : Called). y .used ≤ length (onwards piece from)) (sym e) (within s (onwards piece from)) in (
-      subst (λ (y : Called). 0 < y .used) (sym e) (some s (onwards piece from) a (ap (λ (y : Called). y .told) (sym e) ∙ t)),
-      omega (arith, w, length-take (length piece - from) (drop from piece)),
-    )
 
 used : (c : tie.After-struct-known Inv-loop μ-loop) → let f = c .before .before .before .before .before .before .before .before .before in
     let l = f .before .before .before .before in
@@ -37,7 +25,7 @@ used : (c : tie.After-struct-known Inv-loop μ-loop) → let f = c .before .befo
 used c =
     let f = c .before .before .before .before .before .before .before .before .before in
     let l = f .before .before .before .before in
-    uses _ (l .before .before .before .before .before .args .piece .now) (l .loop .from) _ (f .feed .ensures) (c .before .before .told .given .1)
+    uses _ (l .before .before .before .before .before .args .piece .now) (l .loop .from) (f .feed .ensures) _ (c .before .before .told .given .1)
 
 loop-holds : tie.Need-loop-holds Inv-loop μ-loop
 loop-holds c = search needs
@@ -73,7 +61,10 @@ same-length-3 : tie.Need-same-length-3 Inv-loop μ-loop
 same-length-3 c = search needs
 
 returns : tie.Need-returns Inv-loop μ-loop
-returns c = search needs
+returns c =
+    let f = c .before .before .before .before .before .before .before .before .before .before in
+    let l = f .before .before .before .before in
+    sym (l .loop .inv .4 ∙ finished _ (l .before .before .before .before .before .args .piece .now) (l .loop .from) (f .feed .ensures) (c .before .before .before .enum-told .given .1))
 
 add-from : tie.Need-add-from Inv-loop μ-loop
 add-from c =
@@ -92,8 +83,14 @@ loop-less c = let k = c .before .before .before .before .before .before in omega
 loop-again : tie.Need-loop-again Inv-loop μ-loop
 loop-again c =
     let k = c .before .before .before .before .before .before in
-    let l = k .before .before .before .before .before .before .before .before .before .before .before .before .before in
-    omega (arith, used k .1, l .loop .inv)
+    let f = k .before .before .before .before .before .before .before .before .before in
+    let l = f .before .before .before .before in (
+      search needs,
+      search needs,
+      search needs,
+      omega (arith, used k .1, l .loop .inv .3),
+      l .loop .inv .4 ∙ answered _ (l .before .before .before .before .before .args .piece .now) (l .loop .from) (f .feed .ensures) _ (k .before .before .told .given .1) _ refl,
+    )
 
 pub answer-lines-spec : {M : Type 1} → statement M
 answer-lines-spec =
