@@ -119,6 +119,7 @@ fn main() {
         ("heartbeat, random bitmaps", (0..16).map(|_| long([1, 2, 0, 0], [9, 3, 5], |_| numbers.next() as u8)).collect()),
         ("heartbeat refused with 3", vec![long([1, 99, 0, 0], [9, 3, 5], |_| 0)]),
         ("vote request, answered 15", vec![long([4, 3, 0, 0], [9, 3, 5], |_| 255)]),
+        ("vote request, answered 18", vec![long([4, 3, 0, 0], [9, 3, 5], |_| 0)]),
         ("report", vec![short([2, 2, 3, 1], &[5])]),
         ("fail", vec![short([3, 2, 0, 0], &[5])]),
         ("ack, answered 31", vec![short([5, 2, 3, 0], &[9, 5])]),

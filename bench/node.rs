@@ -258,6 +258,9 @@ impl Node {
         if known.follows.is_some() {
             return 14;
         }
+        if bits.iter().all(|byte| *byte == 0) {
+            return 18;
+        }
         if !matches!(known.flag, Flag::Fail(_)) {
             return 15;
         }

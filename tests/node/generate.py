@@ -41,7 +41,8 @@ def fail(sender, subject, time):
     return bytes([3, sender, subject, 0]) + wide(time)
 
 
-def request(candidate, current, config, time, slots=()):
+def request(candidate, current, config, time, slots=(9000,)):
+    """It claims a slot that nobody owns in the scenes, where it need not claim another."""
     return bytes([4, candidate, 0, 0]) + wide(current) + wide(config) + wide(time) + bitmap(slots)
 
 
@@ -142,6 +143,29 @@ def votes(t):
     t.frame(request(4, base + 1, 2, start + 2000, [0]), 10)
     t.frame(request(2, base + 2, 2, start + 2000, [0]), 14)
     t.frame(request(0, base + 3, 2, start + 2000, [0]), 14)
+
+
+def claims_nothing(t):
+    """A request is empty by its bitmap alone, whoever owns what: 18, after 14 and before 15 and 16, and currentEpoch has risen."""
+    n = t.node
+    start = t.now(10_000)
+    t.frame(heartbeat(0, n.current, n.config[0], start), 0)
+    for slot in (0, 7, 8, 16376, 16383):
+        t.frame(fail(2, 0, t.now()), 0)
+        t.frame(request(3, n.current + 1, n.current + 1, t.now(2000), []), 18)
+        t.frame(request(3, n.current, n.current, t.now(), [slot]), 10)
+    # it comes before 16 and before 15
+    t.frame(request(4, n.current + 1, 0, t.now(), []), 18)
+    t.frame(request(4, n.current, 0, t.now()), 16)
+    t.frame(probe(0, 1, t.now(4001)), 0)
+    t.frame(request(4, n.current + 5, 0, t.now(), []), 18)
+    t.frame(request(4, n.current, 0, t.now()), 15)
+    # 12, 13 and 14 come before
+    t.frame(request(4, n.current - 1, 0, t.now(), []), 12)
+    t.frame(fail(2, 0, t.now()), 0)
+    t.frame(request(4, n.current, n.current, t.now(), [16383]), 10)
+    t.frame(request(4, n.current, 0, t.now(), []), 13)
+    t.frame(request(2, n.current + 1, 0, t.now(), []), 14)
 
 
 def pongs(t):
@@ -420,7 +444,7 @@ def the_top(t):
     t.frame(tick(2**48 - 2), 4)
 
 
-SCENES = (example, pending, old_report, votes, pongs, owners, ties, order, odd_lines, longest_lines)
+SCENES = (example, pending, old_report, votes, claims_nothing, pongs, owners, ties, order, odd_lines, longest_lines)
 
 
 def recorded(seed, lines, longs):

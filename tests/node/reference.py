@@ -1,4 +1,4 @@
-"""A node by document 01, for the cases, and its feed by document 02: the reference that the program `ukweribaso` is compared with.
+"""A node by documents 01 and 02, for the cases, and its feed: the reference that the program `ukweribaso` is compared with.
 
 Written from the documents and not from the Rattle code: whole lists and dictionaries, one method a kind, no care for speed.
 """
@@ -205,6 +205,8 @@ class Node:
             return 13
         if self.master(candidate) or not self.master(self.follows[candidate]):
             return 14
+        if not f["claims"]:
+            return 18  # document 02, [10]: whoever owns what
         master = self.follows[candidate]
         if self.flag[master] != "FAIL":
             return 15

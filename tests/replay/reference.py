@@ -1,6 +1,5 @@
 #!/usr/bin/env python3
-"""What the program `replay` must print: a second opinion, written from docs/REPLAY.md, document 01 and, for the feed in
-pieces, document 02, [9].
+"""What the program `replay` must print: a second opinion, written from docs/REPLAY.md and documents 01 and 02.
 
     python3 tests/replay/reference.py FILE..
 
@@ -52,6 +51,7 @@ NAMES = {
     15: "refused, its master is not FAIL",
     16: "refused, voted for such a replica lately",
     17: "refused, a slot's owner is newer",
+    18: "refused, claims no slot",
     20: "sixteen slots are marked",
     21: "no such slot",
     22: "not marked",

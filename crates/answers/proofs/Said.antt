@@ -28,7 +28,7 @@ plainAnswers =
     ∷ answer.MasterNotFailed
     ∷ answer.VotedLately
     ∷ answer.Done
-    ∷ answer.Done
+    ∷ answer.ClaimsNothing
     ∷ answer.Done
     ∷ answer.MarksFull
     ∷ answer.NoSuchSlot
@@ -77,6 +77,7 @@ read-said answer.NoListedMaster = refl
 read-said answer.MasterNotFailed = refl
 read-said answer.VotedLately = refl
 read-said (answer.Outdated s) = refl
+read-said answer.ClaimsNothing = refl
 read-said answer.MarksFull = refl
 read-said answer.NoSuchSlot = refl
 read-said answer.NotMarked = refl

@@ -1,4 +1,4 @@
--- What document 01 gives each answer: its number, and the values beside it.
+-- What documents 01 and 02 give each answer: its number, and the values beside it.
 use Prim.Native.Nat.{ℕ}
 use mathlib.Core.Path.{_≡_}
 use Rattle.tables.specs.declared.Found.{Found}
@@ -23,6 +23,7 @@ use Rattle.answers.specs.declared.Answer.the-variants.{
   MasterNotFailed,
   VotedLately,
   Outdated,
+  ClaimsNothing,
   MarksFull,
   NoSuchSlot,
   NotMarked,
@@ -75,6 +76,7 @@ said NoListedMaster = plain 14
 said MasterNotFailed = plain 15
 said VotedLately = plain 16
 said (Outdated s) = record { number = 17; values = at-slot s }
+said ClaimsNothing = plain 18
 said MarksFull = plain 20
 said NoSuchSlot = plain 21
 said NotMarked = plain 22

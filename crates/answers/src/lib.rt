@@ -1,4 +1,4 @@
-// What a call is answered, one case for each number of document 01.
+// What a call is answered, one case for each number of documents 01 and 02.
 ghost use mathlib.Core.Path.{_≡_};
 ghost use Rattle.answers.specs.Answers.{number};
 use tables::Found;
@@ -33,6 +33,8 @@ pub enum Answer {
     VotedLately,
     // A vote refused for a slot whose owner is newer than the candidate, the lowest of them.
     Outdated(usize),
+    // A vote refused for a bitmap with no bit set.
+    ClaimsNothing,
     MarksFull,
     NoSuchSlot,
     NotMarked,
@@ -56,7 +58,7 @@ pub enum Check {
     Refused(Answer),
 }
 
-// The number that document 01 gives the answer.
+// The number that documents 01 and 02 give the answer.
 pub fn number(answer: Answer) -> u8
     ensures { λ r. ⌜ r ≡ number answer ⌝ }
 {
@@ -80,6 +82,7 @@ pub fn number(answer: Answer) -> u8
         Answer::MasterNotFailed => 15,
         Answer::VotedLately => 16,
         Answer::Outdated(_) => 17,
+        Answer::ClaimsNothing => 18,
         Answer::MarksFull => 20,
         Answer::NoSuchSlot => 21,
         Answer::NotMarked => 22,

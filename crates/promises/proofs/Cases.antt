@@ -1,10 +1,12 @@
--- Document 01's cases that are marked with a star, all rows as one statement.
+-- Document 01's cases that are marked with a star and document 02's of [10], all rows as one statement.
 use mathlib.Core.Path.{_≡_, refl, ap, _∙_}
 use mathlib.Core.Bool.{Bool, true, false}
 use mathlib.Core.List.{List, [], _∷_, _++_, map}
-use Prim.Native.Nat.{ℕ, zero, suc}
+use Prim.Native.Nat.{ℕ, zero, suc, _^_, _<_}
+use native.Mathlib.Omega.{arith}
 use lib.Dec.{ltb}
 use lib.ListN.{length, getD, replicate}
+use borrow.Author.Tests.{ltb-true}
 use Rattle.tables.specs.Sizes.{unowned, slotCount, reportCount}
 use Rattle.tables.specs.Below.{every}
 use Rattle.tables.specs.Checks.{checked, allOf}
@@ -12,7 +14,7 @@ use Rattle.tables.specs.Lists.{firstFrom, firstAt}
 use Rattle.tables.specs.Sets.{claimed}
 use Rattle.tables.specs.declared.Found.{Found}
 use Rattle.tables.specs.declared.Found.the-variants.{Nothing, At}
-use Rattle.answers.specs.declared.Answer.the-variants.{Granted, StaleEpoch, AlreadyVoted, VotedLately, Outdated}
+use Rattle.answers.specs.declared.Answer.the-variants.{Granted, StaleEpoch, AlreadyVoted, VotedLately, Outdated, ClaimsNothing}
 use Rattle.state.specs.Node.{recordAt, listed, roleAt, followed}
 use Rattle.state.specs.Changes.{withRecords, withClock, withCurrent, withVoted, arrived}
 use Rattle.state.specs.Outcomes.{answered, Stepped}
@@ -23,19 +25,19 @@ use Rattle.fresh.specs.Fresh.{freshNode}
 use Rattle.cases.specs.Cases.{casesNode}
 use Rattle.slots.specs.Cases.{KeyRow, keyAnswered, keyRows}
 use Rattle.slots.proofs.Cases.{key-cases}
-use Rattle.hex.specs.Hex.{isDigit, digit, allDigits, byteAt, numberAt, bytesAt, character, hex, bytesOf}
-use Rattle.frames.specs.Lines.{encode}
-use Rattle.frames.specs.Frames.{frameOf, bitmapOf}
-use Rattle.frames.specs.declared.Decoded.{Decoded}
-use Rattle.frames.specs.declared.Decoded.the-variants.{NotAFrame, Good}
+use Rattle.hex.proofs.Writing.{no-bytes, one-byte, bytes-append}
+use Rattle.frames.specs.Lines.{Bytes, Fits}
+use Rattle.frames.specs.declared.Decoded.the-variants.{Good}
+use Rattle.frames.proofs.OneLine.{one-line}
 use Rattle.refusals.specs.Refusals.{isBeyond, frameRefusals, refusals, refusal}
 use Rattle.answers.specs.declared.Check.{Check}
 use Rattle.answers.specs.declared.Check.the-variants.{Passed}
 use Rattle.votes.specs.Votes.{requestChecks, newer, granted, byOwners, requested}
 use Rattle.kinds.specs.Kinds.{keeping, onKind}
 use Rattle.node.specs.Step.{onFrame}
+use Rattle.tables.proofs.Checks.{part}
 use Rattle.answers.proofs.Checks.{by-check}
-use Rattle.promises.specs.Cases.{voter, slots, reports, claimOfSlot0, Asked, ask, requestOf, lineOf, VoteRow, voteRows, outdatedRows, Row, key, votes, voteAnswered, votesAnswered, AllCases}
+use Rattle.promises.specs.Cases.{voter, slots, reports, claimOfSlot0, claimOfSlot16383, claimOfNothing, Asked, asks, ask, requestOf, lineOf, VoteRow, voteRows, outdatedRows, emptyRows, Row, key, votes, voteAnswered, votesAnswered, AllCases}
 use Rattle.promises.specs.Cases as table
 
 -- ---- one request of the table
@@ -51,11 +53,11 @@ reports-long : length reports ≡ reportCount
 unfolding reports
 reports-long = refl
 
--- a line that decodes and passes is the request
-asked-step : (n : Node) (q : Asked) (o : Outcome) → frameOf (lineOf q) ≡ Good (requestOf q) → refusal n slotCount reportCount (Good (requestOf q)) ≡ Passed
-    → requested (arrivedAt q n) slots (bitmapOf (lineOf q)) (q .candidate) (q .epoch) (q .config) ≡ o → onFrame n slots reports (lineOf q) ≡ keeping slots reports o
-unfolding onFrame onKind
-asked-step n q o d p e = rw (by-check, d, slots-long, reports-long, p, e)
+-- a line that passes is the request: it reads as what was written
+asked-step : (n : Node) (q : Asked) (o : Outcome) → Fits (requestOf q) (q .bitmap) → refusal n slotCount reportCount (Good (requestOf q)) ≡ Passed
+    → requested (arrivedAt q n) slots (q .bitmap) (q .candidate) (q .epoch) (q .config) ≡ o → onFrame n slots reports (lineOf q) ≡ keeping slots reports o
+unfolding lineOf onFrame onKind
+asked-step n q o f p e = rw (by-check, one-line .read-back (requestOf q) (q .bitmap) f, one-line .bitmap-back (requestOf q) (q .bitmap) f refl, slots-long, reports-long, p, e)
 
 -- where no owner is newer: only slot 0 has an owner
 unlisted : (c x l : Bool) → l ≡ false → allOf (c ∷ l ∷ x ∷ []) ≡ false
@@ -84,9 +86,9 @@ nothing-newer m bitmap config l o =
 
 -- then the checks decide
 settles : (m : Node) (bitmap : List ℕ) (candidate epoch config : ℕ) (x : Found) → firstAt (newer m bitmap config) slots ≡ x
-    → requested m slots bitmap candidate epoch config ≡ checked (answered m) (requestChecks m (roleAt m candidate) epoch) (byOwners m (followed (roleAt m candidate)) epoch x)
+    → requested m slots bitmap candidate epoch config ≡ checked (answered m) (requestChecks m (roleAt m candidate) bitmap epoch) (byOwners m (followed (roleAt m candidate)) epoch x)
 unfolding requested
-settles m bitmap candidate epoch config x e = ap (λ (f : Found). checked (answered m) (requestChecks m (roleAt m candidate) epoch) (byOwners m (followed (roleAt m candidate)) epoch f)) e
+settles m bitmap candidate epoch config x e = ap (λ (f : Found). checked (answered m) (requestChecks m (roleAt m candidate) bitmap epoch) (byOwners m (followed (roleAt m candidate)) epoch f)) e
 
 -- ---- the requests
 
@@ -105,16 +107,45 @@ q5 = ask 4 6 2 3000
 abbrev q6 : Asked
 q6 = ask 3 5 1 1000
 
--- each line decodes to its request
-abbrev questions : List Asked
-questions = q1 ∷ q2 ∷ q4 ∷ q5 ∷ q6 ∷ []
+abbrev q7 : Asked
+q7 = asks 3 6 2 1000 claimOfNothing
 
-all-decode : map (λ (q : Asked). frameOf (lineOf q)) questions ≡ map (λ (q : Asked). Good (requestOf q)) questions
-unfolding character hex bytesOf encode claimOfSlot0 lineOf isDigit digit allDigits byteAt numberAt frameOf
-all-decode = refl
+abbrev q8 : Asked
+q8 = asks 3 6 2 1000 claimOfSlot16383
 
-decodes : (k : ℕ) → getD (map (λ (q : Asked). frameOf (lineOf q)) questions) k NotAFrame ≡ getD (map (λ (q : Asked). Good (requestOf q)) questions) k NotAFrame
-decodes k = ap (λ (l : List Decoded). getD l k NotAFrame) all-decode
+-- ---- each fits its line
+
+abbrev Bitmap : List ℕ → Type 0
+Bitmap m = (length m ≡ 2048) × Bytes m
+
+zeros : (n : ℕ) → Bytes (replicate n 0)
+zeros zero = no-bytes
+zeros (suc n) = one-byte 0 (replicate n 0) (omega arith) (zeros n)
+
+slot-0-alone : Bitmap claimOfSlot0
+unfolding claimOfSlot0
+slot-0-alone = (refl, one-byte 0x01 (replicate 2047 0) (omega arith) (zeros 2047))
+
+slot-16383-alone : Bitmap claimOfSlot16383
+unfolding claimOfSlot16383
+slot-16383-alone = (refl, bytes-append (replicate 2047 0) (0x80 ∷ []) (zeros 2047) (one-byte 0x80 [] (omega arith) no-bytes))
+
+no-slot : Bitmap claimOfNothing
+unfolding claimOfNothing
+no-slot = (refl, zeros 2048)
+
+-- and so do the numbers, which are small
+abbrev smalls : Asked → List Bool
+smalls q = ltb (q .candidate) 256 ∷ ltb (q .epoch) 4096 ∷ ltb (q .config) 4096 ∷ ltb (q .time) 4096 ∷ []
+
+fits : (q : Asked) → Bitmap (q .bitmap) → allOf (smalls q) ≡ true → Fits (requestOf q) (q .bitmap)
+fits q m s = (
+  one-byte 4 (q .candidate ∷ replicate 2 0) (omega arith) (one-byte (q .candidate) (replicate 2 0) (ltb-true (q .candidate) 256 (part 0 (smalls q) s)) (zeros 2)),
+  (number (q .epoch) (part 1 (smalls q) s), number (q .config) (part 2 (smalls q) s), number (q .time) (part 3 (smalls q) s), m .0, m .1),
+)
+  where
+    number : (x : ℕ) → ltb x 4096 ≡ true → x < 256 ^ 8
+    number x h = omega (arith, ltb-true x 4096 h)
 
 -- ---- the voter after each
 
@@ -133,47 +164,61 @@ n4 = arrivedAt q4 n3
 abbrev n5 : Node
 n5 = granted 0 6 (arrivedAt q5 n4)
 
+abbrev n7 : Node
+n7 = arrivedAt q7 voter
+
+abbrev n8 : Node
+n8 = granted 0 6 (arrivedAt q8 n7)
+
 -- and none is turned away
 abbrev looks : Node → Asked → Check
 looks n q = refusal n slotCount reportCount (Good (requestOf q))
 
 abbrev checks : List Check
-checks = looks voter q1 ∷ looks n1 q2 ∷ looks n2 q2 ∷ looks n3 q4 ∷ looks n4 q5 ∷ looks voter q6 ∷ []
+checks = looks voter q1 ∷ looks n1 q2 ∷ looks n2 q2 ∷ looks n3 q4 ∷ looks n4 q5 ∷ looks voter q6 ∷ looks voter q7 ∷ looks n7 q8 ∷ []
 
-all-pass : checks ≡ replicate 6 Passed
+all-pass : checks ≡ replicate 8 Passed
 unfolding every withRecords withClock withCurrent withVoted freshNode casesNode arraysWhole boundsKept before idsAscend recordsSound electionSound marksAscend marksSound ownClear sound isBeyond frameRefusals refusals granted voter
 all-pass = refl
 
-passes : (k : ℕ) → getD checks k Passed ≡ getD (replicate 6 Passed) k Passed
+passes : (k : ℕ) → getD checks k Passed ≡ getD (replicate 8 Passed) k Passed
 passes k = ap (λ (l : List Check). getD l k Passed) all-pass
 
-vote1 : requested n1 slots (bitmapOf (lineOf q1)) 3 4 2 ≡ answered n1 StaleEpoch
+vote1 : requested n1 slots claimOfSlot0 3 4 2 ≡ answered n1 StaleEpoch
 unfolding withRecords withClock withCurrent withVoted freshNode casesNode granted voter requested
 vote1 = refl
 
-vote2 : requested (arrivedAt q2 n1) slots (bitmapOf (lineOf q2)) 3 5 2 ≡ answered n2 Granted
-unfolding withRecords withClock withCurrent withVoted freshNode casesNode granted voter
-vote2 = settles (arrivedAt q2 n1) (bitmapOf (lineOf q2)) 3 5 2 Nothing (nothing-newer (arrivedAt q2 n1) (bitmapOf (lineOf q2)) 2 refl refl)
+vote2 : requested (arrivedAt q2 n1) slots claimOfSlot0 3 5 2 ≡ answered n2 Granted
+unfolding withRecords withClock withCurrent withVoted freshNode casesNode granted voter claimOfSlot0
+vote2 = settles (arrivedAt q2 n1) claimOfSlot0 3 5 2 Nothing (nothing-newer (arrivedAt q2 n1) claimOfSlot0 2 refl refl)
 
-vote3 : requested n3 slots (bitmapOf (lineOf q2)) 3 5 2 ≡ answered n3 AlreadyVoted
+vote3 : requested n3 slots claimOfSlot0 3 5 2 ≡ answered n3 AlreadyVoted
 unfolding withRecords withClock withCurrent withVoted freshNode casesNode granted voter requested
 vote3 = refl
 
-vote4 : requested n4 slots (bitmapOf (lineOf q4)) 4 6 2 ≡ answered n4 VotedLately
-unfolding withRecords withClock withCurrent withVoted freshNode casesNode granted voter requested
+vote4 : requested n4 slots claimOfSlot0 4 6 2 ≡ answered n4 VotedLately
+unfolding withRecords withClock withCurrent withVoted freshNode casesNode granted voter requested claimOfSlot0
 vote4 = refl
 
-vote5 : requested (arrivedAt q5 n4) slots (bitmapOf (lineOf q5)) 4 6 2 ≡ answered n5 Granted
-unfolding withRecords withClock withCurrent withVoted freshNode casesNode granted voter
-vote5 = settles (arrivedAt q5 n4) (bitmapOf (lineOf q5)) 4 6 2 Nothing (nothing-newer (arrivedAt q5 n4) (bitmapOf (lineOf q5)) 2 refl refl)
+vote5 : requested (arrivedAt q5 n4) slots claimOfSlot0 4 6 2 ≡ answered n5 Granted
+unfolding withRecords withClock withCurrent withVoted freshNode casesNode granted voter claimOfSlot0
+vote5 = settles (arrivedAt q5 n4) claimOfSlot0 4 6 2 Nothing (nothing-newer (arrivedAt q5 n4) claimOfSlot0 2 refl refl)
 
-slot-0 : firstAt (newer (arrivedAt q6 voter) (bitmapOf (lineOf q6)) 1) slots ≡ At 0
-unfolding withRecords withClock withCurrent withVoted freshNode casesNode voter slots firstFrom bitmapOf bytesAt character hex bytesOf encode claimOfSlot0 lineOf isDigit digit byteAt
+slot-0 : firstAt (newer (arrivedAt q6 voter) claimOfSlot0 1) slots ≡ At 0
+unfolding withRecords withClock withCurrent withVoted freshNode casesNode voter slots firstFrom claimOfSlot0
 slot-0 = refl
 
-vote6 : requested (arrivedAt q6 voter) slots (bitmapOf (lineOf q6)) 3 5 1 ≡ answered (arrivedAt q6 voter) (Outdated 0)
-unfolding withRecords withClock withCurrent withVoted freshNode casesNode granted voter
-vote6 = settles (arrivedAt q6 voter) (bitmapOf (lineOf q6)) 3 5 1 (At 0) slot-0
+vote6 : requested (arrivedAt q6 voter) slots claimOfSlot0 3 5 1 ≡ answered (arrivedAt q6 voter) (Outdated 0)
+unfolding withRecords withClock withCurrent withVoted freshNode casesNode granted voter claimOfSlot0
+vote6 = settles (arrivedAt q6 voter) claimOfSlot0 3 5 1 (At 0) slot-0
+
+vote7 : requested n7 slots claimOfNothing 3 6 2 ≡ answered n7 ClaimsNothing
+unfolding withRecords withClock withCurrent withVoted freshNode casesNode granted voter requested claimOfNothing
+vote7 = refl
+
+vote8 : requested (arrivedAt q8 n7) slots claimOfSlot16383 3 6 2 ≡ answered n8 Granted
+unfolding withRecords withClock withCurrent withVoted freshNode casesNode granted voter claimOfSlot16383
+vote8 = settles (arrivedAt q8 n7) claimOfSlot16383 3 6 2 Nothing (nothing-newer (arrivedAt q8 n7) claimOfSlot16383 2 refl refl)
 
 -- ---- the rows, one after the other
 
@@ -188,15 +233,21 @@ done n = refl
 votes-cases : votesAnswered voter voteRows ≡ voteRows
 unfolding withRecords withClock withCurrent withVoted freshNode casesNode granted voter
 votes-cases =
-    row voter _ _ _ (asked-step voter q1 _ (decodes 0) (passes 0) vote1) refl
-    (row n1 _ _ _ (asked-step n1 q2 _ (decodes 1) (passes 1) vote2) refl
-    (row n2 _ _ _ (asked-step n2 q2 _ (decodes 1) (passes 2) vote3) refl
-    (row n3 _ _ _ (asked-step n3 q4 _ (decodes 2) (passes 3) vote4) refl
-    (row n4 _ _ _ (asked-step n4 q5 _ (decodes 3) (passes 4) vote5) refl (done n5)))))
+    row voter _ _ _ (asked-step voter q1 _ (fits q1 slot-0-alone refl) (passes 0) vote1) refl
+    (row n1 _ _ _ (asked-step n1 q2 _ (fits q2 slot-0-alone refl) (passes 1) vote2) refl
+    (row n2 _ _ _ (asked-step n2 q2 _ (fits q2 slot-0-alone refl) (passes 2) vote3) refl
+    (row n3 _ _ _ (asked-step n3 q4 _ (fits q4 slot-0-alone refl) (passes 3) vote4) refl
+    (row n4 _ _ _ (asked-step n4 q5 _ (fits q5 slot-0-alone refl) (passes 4) vote5) refl (done n5)))))
 
 outdated-cases : votesAnswered voter outdatedRows ≡ outdatedRows
 unfolding withRecords withClock withCurrent withVoted freshNode casesNode voter
-outdated-cases = row voter _ _ _ (asked-step voter q6 _ (decodes 4) (passes 5) vote6) refl (done _)
+outdated-cases = row voter _ _ _ (asked-step voter q6 _ (fits q6 slot-0-alone refl) (passes 5) vote6) refl (done _)
+
+empty-cases : votesAnswered voter emptyRows ≡ emptyRows
+unfolding withRecords withClock withCurrent withVoted freshNode casesNode granted voter
+empty-cases =
+    row voter _ _ _ (asked-step voter q7 _ (fits q7 no-slot refl) (passes 6) vote7) refl
+    (row n7 _ _ _ (asked-step n7 q8 _ (fits q8 slot-16383-alone refl) (passes 7) vote8) refl (done n8))
 
 key-rows : (ks : List KeyRow) (rest : List Row) → map table.rowAnswered (map key ks ++ rest) ≡ map key (map keyAnswered ks) ++ map table.rowAnswered rest
 key-rows [] rest = refl
@@ -204,7 +255,8 @@ key-rows (k ∷ ks) rest = ap (λ (rs : List Row). key (keyAnswered k) ∷ rs) (
 
 pub all-cases : AllCases
 all-cases =
-    key-rows keyRows (votes voteRows ∷ votes outdatedRows ∷ [])
-    ∙ ap (λ (ks : List KeyRow). map key ks ++ votes (votesAnswered voter voteRows) ∷ votes (votesAnswered voter outdatedRows) ∷ []) key-cases
-    ∙ ap (λ (rs : List VoteRow). map key keyRows ++ votes rs ∷ votes (votesAnswered voter outdatedRows) ∷ []) votes-cases
-    ∙ ap (λ (rs : List VoteRow). map key keyRows ++ votes voteRows ∷ votes rs ∷ []) outdated-cases
+    key-rows keyRows (votes voteRows ∷ votes outdatedRows ∷ votes emptyRows ∷ [])
+    ∙ ap (λ (ks : List KeyRow). map key ks ++ votes (votesAnswered voter voteRows) ∷ votes (votesAnswered voter outdatedRows) ∷ votes (votesAnswered voter emptyRows) ∷ []) key-cases
+    ∙ ap (λ (rs : List VoteRow). map key keyRows ++ votes rs ∷ votes (votesAnswered voter outdatedRows) ∷ votes (votesAnswered voter emptyRows) ∷ []) votes-cases
+    ∙ ap (λ (rs : List VoteRow). map key keyRows ++ votes voteRows ∷ votes rs ∷ votes (votesAnswered voter emptyRows) ∷ []) outdated-cases
+    ∙ ap (λ (rs : List VoteRow). map key keyRows ++ votes voteRows ∷ votes outdatedRows ∷ votes rs ∷ []) empty-cases

@@ -1,5 +1,6 @@
--- Document 01, "Node for the cases": every case that is marked with a star, keys and votes, as rows of one table. The rows of
--- votes go through the definition of the whole `frame`, from the line of 4,152 digits to the answer.
+-- Document 01, "Node for the cases": every case that is marked with a star, keys and votes, and the requests of document 02,
+-- [10], as rows of one table. The rows of votes go through the definition of the whole `frame`, from the line of 4,152 digits
+-- to the answer.
 use Prim.Native.Nat.{ℕ, _+_}
 use mathlib.Core.Path.{_≡_}
 use mathlib.Core.List.{List, [], _∷_, _++_, map}
@@ -30,23 +31,30 @@ slots = 0 ∷ replicate 16383 unowned
 unfoldable pub reports : List ℕ
 reports = replicate reportCount 0
 
--- ---- a vote request's line, which claims slot 0
+-- ---- a vote request's line
 
--- the first bit of the bitmap and no other
+-- bitmaps: the first bit and no other, the last bit and no other, and no bit
 unfoldable pub claimOfSlot0 : List ℕ
-claimOfSlot0 = 1 ∷ replicate 2047 0
+claimOfSlot0 = 0x01 ∷ replicate 2047 0
+
+unfoldable pub claimOfSlot16383 : List ℕ
+claimOfSlot16383 = replicate 2047 0 ++ 0x80 ∷ []
+
+unfoldable pub claimOfNothing : List ℕ
+claimOfNothing = replicate 2048 0
 
 pub record Asked : Type 0 where
   pub candidate : ℕ
   pub epoch : ℕ
   pub config : ℕ
   pub time : ℕ
+  pub bitmap : List ℕ
 
 abbrev pub requestOf : Asked → Frame
 requestOf q = record { header = record { time = q .time; epoch = q .epoch; config = q .config }; kind = Request (q .candidate) }
 
 unfoldable pub lineOf : Asked → List ℕ
-lineOf q = encode (requestOf q) claimOfSlot0
+lineOf q = encode (requestOf q) (q .bitmap)
 
 -- ---- the table
 
@@ -61,8 +69,12 @@ pub data Row : Type 0 where
   key : KeyRow → Row
   votes : List VoteRow → Row
 
+abbrev pub asks : ℕ → ℕ → ℕ → ℕ → List ℕ → Asked
+asks candidate epoch config time bitmap = record { candidate = candidate; epoch = epoch; config = config; time = time; bitmap = bitmap }
+
+-- document 01's requests claim slot 0
 abbrev pub ask : ℕ → ℕ → ℕ → ℕ → Asked
-ask candidate epoch config time = record { candidate = candidate; epoch = epoch; config = config; time = time }
+ask candidate epoch config time = asks candidate epoch config time claimOfSlot0
 
 abbrev pub gives : Asked → Said → ℕ → VoteRow
 gives q a e = record { asked = q; answer = a; current = e }
@@ -82,8 +94,16 @@ voteRows =
 abbrev pub outdatedRows : List VoteRow
 outdatedRows = gives (ask 3 5 1 1000) (record { number = 17; values = at-slot 0 }) 5 ∷ []
 
+-- document 02, [10]: candidate 3 at epoch 6 with an empty bitmap: 18, currentEpoch 6; then with slot 16383 alone, which nobody
+-- owns: 10, since 18 uses up no epoch
+abbrev pub emptyRows : List VoteRow
+emptyRows =
+    gives (asks 3 6 2 1000 claimOfNothing) (plain 18) 6
+    ∷ gives (asks 3 6 2 1000 claimOfSlot16383) (plain 10) 6
+    ∷ []
+
 abbrev pub rows : List Row
-rows = map key keyRows ++ votes voteRows ∷ votes outdatedRows ∷ []
+rows = map key keyRows ++ votes voteRows ∷ votes outdatedRows ∷ votes emptyRows ∷ []
 
 -- ---- the same, by the definitions
 

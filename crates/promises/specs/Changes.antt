@@ -120,7 +120,7 @@ module _ (n : Node) (slots reports : List ℕ) (s : Stepped) (h : Header) where
     pub each : (k : ℕ) → k < n .size → recordAt after k .flag ≡ tickFlag later reports k
     pub tables : TablesKept slots reports s
 
-  -- vote request: 10 sets lastVoteEpoch and the vote time of the candidate's master; 11 to 17 nothing more
+  -- vote request: 10 sets lastVoteEpoch and the vote time of the candidate's master; 11 to 18 nothing more
   pub record RequestChanges (candidate : ℕ) : Type 0 where
     pub refused : (s .outcome .answer ≡ Granted → ⊥) → after ≡ arrival
     pub granted : s .outcome .answer ≡ Granted → after ≡ votes.granted (followed (roleAt arrival candidate)) (h .epoch) arrival

@@ -1,6 +1,6 @@
--- The computed examples of demand 3. A vote request is computed up to the look at the slot table, which a law answers; all
--- else is computed whole.
-use mathlib.Core.Path.{_≡_, refl, sym, ap, _∙_, subst}
+-- The computed examples of demand 3. A vote request is computed up to its looks at the bitmap, which is computed apart, and at
+-- the slot table, which a law answers; all else is computed whole.
+use mathlib.Core.Path.{_≡_, refl, sym, ap, ap₂, _∙_, subst}
 use mathlib.Core.Logic.{inl, inr}
 use mathlib.Core.Bool.{Bool, true, false, cond}
 use mathlib.Core.List.{List, [], _∷_, map}
@@ -20,12 +20,14 @@ use Rattle.tables.specs.declared.Found.{Found}
 use Rattle.tables.specs.declared.Found.the-variants.{Nothing}
 use Rattle.nodesets.specs.NodeSets.{gathered}
 use Rattle.answers.specs.Answers.{number}
+use Rattle.answers.specs.declared.Answer.the-variants.{ClaimsNothing}
 use Rattle.state.specs.Node.{recordAt, listed}
 use Rattle.state.specs.Changes.{withRecords, withCurrent, withVoted, withClock, withElection, arrived}
+use Rattle.state.specs.Outcomes.{answered}
 use Rattle.state.specs.declared.Node.{Node}
 use Rattle.soundness.specs.Sound.{arraysWhole, boundsKept, before, idsAscend, recordsSound, electionSound, marksAscend, marksSound, ownClear, sound}
 use Rattle.fresh.specs.Fresh.{freshNode}
-use Rattle.hex.specs.Hex.{isDigit, digit, allDigits, byteAt, numberAt, character, hex, bytesOf}
+use Rattle.hex.specs.Hex.{isDigit, digit, allDigits, byteAt, numberAt, bytesAt, character, hex, bytesOf}
 use Rattle.frames.specs.Frames.{frameOf, bitmapOf}
 use Rattle.frames.specs.Lines.{encode}
 use Rattle.frames.specs.declared.Kind.the-variants.{Request}
@@ -33,6 +35,7 @@ use Rattle.refusals.specs.Refusals.{isBeyond, frameRefusals, refusals}
 use Rattle.reports.specs.Reports.{failed}
 use Rattle.heartbeats.specs.Heartbeats.{withSender, heartbeat}
 use Rattle.votes.specs.Votes as votes
+use Rattle.claims.specs.Claims.{empty}
 use Rattle.votes.specs.Votes.{newer, byOwners, requested}
 use Rattle.openings.specs.Openings as openings
 use Rattle.openings.specs.Openings.{opens}
@@ -68,9 +71,20 @@ none-newer n bitmap k h z = rw (z, no-newer-owner (claimed bitmap 0) (listed n 0
 abbrev informed : ℕ → ℕ → Node
 informed v s = stateOf roster timeouts (gets v (failLine s) ∷ []) v
 
--- what it did once the request of c was answered, by what the look at the table finds
-abbrev voter : ℕ → ℕ → ℕ → Found → List Deed
-voter v s c x = kindDeed (record { time = 0; epoch = 1; config = 0 }) (Request c) (number (byOwners (arrived 0 1 (informed v s)) 0 1 x .answer)) ∷ other ∷ []
+-- what it did once the request of c was answered, by whether the bitmap is empty and by what the look at the table finds
+abbrev voter : ℕ → ℕ → ℕ → Bool → Found → List Deed
+voter v s c t x =
+    let n = arrived 0 1 (informed v s) in
+    kindDeed (record { time = 0; epoch = 1; config = 0 }) (Request c) (number (cond t (answered n ClaimsNothing) (byOwners n 0 1 x) .answer)) ∷ other ∷ []
+
+-- the requests of 3 and 4 claim a slot
+claims3 : empty (bitmapOf (requestLine 3)) ≡ false
+unfolding character hex bytesOf encode isDigit digit byteAt bytesAt bitmapOf
+claims3 = refl
+
+claims4 : empty (bitmapOf (requestLine 4)) ≡ false
+unfolding character hex bytesOf encode isDigit digit byteAt bytesAt bitmapOf
+claims4 = refl
 
 -- ---- what each node did
 
@@ -88,12 +102,12 @@ lives : Lives
 unfolding every mapFrom wordOf wordsFrom firstFrom gathered withRecords withCurrent withVoted withClock withElection arraysWhole boundsKept before idsAscend recordsSound electionSound marksAscend marksSound ownClear sound freshNode isDigit digit allDigits byteAt numberAt character hex bytesOf frameOf encode isBeyond frameRefusals refusals failed withSender heartbeat votes.granted requested openings.opening opens promoted acked onKind onFrame ones winning differing madeUp
 lives = record {
   winner = refl;
-  winner-voter1 = ap (voter 1 2 3) (none-newer (arrived 0 1 (informed 1 2)) (bitmapOf (requestLine 3)) 16383 refl refl);
-  winner-voter2 = ap (voter 2 1 3) (none-newer (arrived 0 1 (informed 2 1)) (bitmapOf (requestLine 3)) 16383 refl refl);
+  winner-voter1 = ap₂ (voter 1 2 3) claims3 (none-newer (arrived 0 1 (informed 1 2)) (bitmapOf (requestLine 3)) 16383 refl refl);
+  winner-voter2 = ap₂ (voter 2 1 3) claims3 (none-newer (arrived 0 1 (informed 2 1)) (bitmapOf (requestLine 3)) 16383 refl refl);
   first = refl;
   second = refl;
-  first-voter = ap (voter 1 2 3) (none-newer (arrived 0 1 (informed 1 2)) (bitmapOf (requestLine 3)) 16383 refl refl);
-  second-voter = ap (voter 2 1 4) (none-newer (arrived 0 1 (informed 2 1)) (bitmapOf (requestLine 4)) 16383 refl refl);
+  first-voter = ap₂ (voter 1 2 3) claims3 (none-newer (arrived 0 1 (informed 1 2)) (bitmapOf (requestLine 3)) 16383 refl refl);
+  second-voter = ap₂ (voter 2 1 4) claims4 (none-newer (arrived 0 1 (informed 2 1)) (bitmapOf (requestLine 4)) 16383 refl refl);
   loser = refl;
 }
 

@@ -29,10 +29,11 @@ timeouts v = 1000
 abbrev pub deeds : List Made → ℕ → List Deed
 deeds ms v = history roster timeouts ms v
 
--- ---- lines: configEpochs and times are 0, and the bitmaps of kinds 1 and 4 claim nothing
+-- ---- lines: configEpochs and times are 0, and the bitmaps of kinds 1 and 4 claim slot 0; the heartbeats are of replicas,
+-- whose claims count for nothing
 
 abbrev pub lineOf : ℕ → Kind → List ℕ
-lineOf epoch kind = encode (record { header = record { time = 0; epoch = epoch; config = 0 }; kind = kind }) (replicate 2048 0)
+lineOf epoch kind = encode (record { header = record { time = 0; epoch = epoch; config = 0 }; kind = kind }) (1 ∷ replicate 2047 0)
 
 -- the sender is a replica of node 3 now
 abbrev pub replicaLine : ℕ → List ℕ

@@ -42,9 +42,9 @@ lately-read : (t : Moment) → Reads (λ n. lately n t)
 lately-read Never n = refl
 lately-read (At t) n = refl
 
--- 11 to 16, where whoever is followed is listed
-request-read : (role : Role) (epoch : ℕ) (n : Node) → followed role < n .size → requestChecks (bare (held n)) role epoch ≡ requestChecks n role epoch
-request-read role epoch n h = rw (master-read (n .me) n, follows-read role n, record-read (followed role) n h, lately-read (recordAt n (followed role) .vote) n)
+-- 11 to 16 and 18, where whoever is followed is listed
+request-read : (role : Role) (bitmap : List ℕ) (epoch : ℕ) (n : Node) → followed role < n .size → requestChecks (bare (held n)) role bitmap epoch ≡ requestChecks n role bitmap epoch
+request-read role bitmap epoch n h = rw (master-read (n .me) n, follows-read role n, record-read (followed role) n h, lately-read (recordAt n (followed role) .vote) n)
 
 -- 17
 newer-read : (bitmap : List ℕ) (config slot owner : ℕ) → Reads (λ n. newer n bitmap config slot owner)
@@ -70,7 +70,7 @@ module _ (a b : Node) (e : Alike a b) (slots reports : List ℕ) where
       subst₂ (λ (r : Role) (x : Found). Told (keeping slots reports (asked a (role a) (newest a))) (keeping slots reports (asked b r x)))
       (reads-alike a b e role (role-read candidate)) (reads-alike a b e newest (newest-read slots bitmap config))
       (checked-told (keeping slots reports) (answered a) (answered b) _ _
-      (reads-where a b e (λ s. followed (role a) < s .size) (listed candidate) (λ n. requestChecks n (role a) epoch) (request-read (role a) epoch)) _ _
+      (reads-where a b e (λ s. followed (role a) < s .size) (listed candidate) (λ n. requestChecks n (role a) bitmap epoch) (request-read (role a) bitmap epoch)) _ _
       (answered-told a b e slots reports) (λ p. owners-told (followed (role a)) epoch (newest a)))
     where
       role : Node → Role
@@ -80,7 +80,7 @@ module _ (a b : Node) (e : Alike a b) (slots reports : List ℕ) where
       newest n = firstAt (newer n bitmap config) slots
 
       asked : Node → Role → Found → Outcome
-      asked n r x = checked (answered n) (requestChecks n r epoch) (byOwners n (followed r) epoch x)
+      asked n r x = checked (answered n) (requestChecks n r bitmap epoch) (byOwners n (followed r) epoch x)
 
 -- ---- an opening
 

@@ -140,7 +140,7 @@ fn put_text(out: &mut [u8], at: usize, texts: &[u8], note: Note) -> usize {
 }
 
 // All texts: the answers' first, then the others. Each goes up to a ~.
-const TEXTS: [u8; 1535] = *b"done~\
+const TEXTS: [u8; 1558] = *b"done~\
     a table has the wrong length~\
     not a frame~\
     no such node~\
@@ -158,7 +158,7 @@ const TEXTS: [u8; 1535] = *b"done~\
     refused, its master is not FAIL~\
     refused, voted for such a replica lately~\
     refused, a slot's owner is newer, slot %~\
-    ~\
+    refused, claims no slot~\
     ~\
     sixteen slots are marked~\
     no such slot~\

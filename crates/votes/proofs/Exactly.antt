@@ -12,6 +12,7 @@ use Rattle.tables.specs.Checks.{checked}
 use Rattle.tables.specs.Lists.{firstAt}
 use Rattle.tables.specs.Sets.{claimed}
 use Rattle.ages.specs.Ages.{age}
+use Rattle.claims.specs.Claims.{empty}
 use Rattle.tables.specs.declared.Found.the-variants.{Nothing}
 use Rattle.answers.specs.declared.Answer.{Answer}
 use Rattle.answers.specs.declared.Answer.the-variants.{Granted}
@@ -30,6 +31,7 @@ use Rattle.votes.specs.Grants.{ListedMaster, ListedReplica, Grantable}
 use Rattle.tables.proofs.Checks.{never}
 use Rattle.tables.proofs.Walks.{none-passes, none-found}
 use Rattle.answers.proofs.Checks.{refuses}
+use Rattle.claims.proofs.Claims.{empty-exactly}
 use Rattle.votes.proofs.Steps.{Unrefused, request-cases}
 
 -- ---- from the tests to the conditions
@@ -66,6 +68,13 @@ tests-master n k l = rw (lt-ltb k (n .size) (l .listed), l .master)
 tests-role : (n : Node) (k m : ℕ) → ListedReplica n k m → roleAt n k ≡ Replica m
 tests-role n k m l = rw (lt-ltb k (n .size) (l .listed)) (l .replica)
 
+tests-claim : (bitmap : List ℕ) (slot : ℕ) → claimed bitmap slot ≡ true → empty bitmap ≡ false
+tests-claim bitmap slot c = go (empty bitmap) refl
+  where
+    go : (t : Bool) → empty bitmap ≡ t → t ≡ false
+    go true e = never (sym c ∙ empty-exactly bitmap .none e slot)
+    go false e = refl
+
 tests-rest : (n : Node) (v : Moment) → ((t : ℕ) → v ≡ At t → 2 * n .timeout ≤ age (n .clock) t) → lately n v ≡ false
 tests-rest n Never f = refl
 tests-rest n (At t) f = le-ltb (age (n .clock) t) (2 * n .timeout) (f t refl)
@@ -100,6 +109,7 @@ module _ (n : Node) (slots bitmap : List ℕ) (candidate epoch config : ℕ) whe
           let f : isFail (recordAt n (followed (roleAt n candidate)) .flag) ≡ true = not-false _ (p 15) in
           let d : followed (roleAt n candidate) ≡ m = ap followed q in
           let s = since m (recordAt n m .flag) refl (rw d at f) in
+          let claim = empty-exactly bitmap .some (p 18) in
           let v : lately n (recordAt n (followed (roleAt n candidate)) .vote) ≡ false = p 16 in
           record {
             own = is-master n (n .me) (not-false _ (p 11));
@@ -108,6 +118,8 @@ module _ (n : Node) (slots bitmap : List ℕ) (candidate epoch config : ℕ) whe
             m = m;
             candidate-follows = is-replica n candidate m q;
             master = is-master n m h;
+            slot = claim .0;
+            claims = claim .1;
             since = s .0;
             fail = s .1;
             rested = rests n (recordAt n m .vote) (rw d at v);
@@ -119,8 +131,8 @@ module _ (n : Node) (slots bitmap : List ℕ) (candidate epoch config : ℕ) whe
   grants g =
       let q = tests-role n candidate (g .m) (g .candidate-follows) in
       let f : firstAt (newer n bitmap config) slots ≡ Nothing = none-found (newer n bitmap config) 0 slots (λ k l. rw (zero-add k) (tests-owner n bitmap config k (getD slots k 0) (g .owners k l))) in
-      ap (λ (r : Role). checked (answered n) (requestChecks n r epoch) (byOwners n (followed r) epoch (firstAt (newer n bitmap config) slots))) q
-      ∙ (rw (tests-master n (n .me) (g .own), le-ltb epoch (n .current) (g .current), lt-leb epoch (n .voted) (g .unvoted), tests-master n (g .m) (g .master), g .fail, tests-rest n (recordAt n (g .m) .vote) (g .rested), f))
+      ap (λ (r : Role). checked (answered n) (requestChecks n r bitmap epoch) (byOwners n (followed r) epoch (firstAt (newer n bitmap config) slots))) q
+      ∙ (rw (tests-master n (n .me) (g .own), le-ltb epoch (n .current) (g .current), lt-leb epoch (n .voted) (g .unvoted), tests-master n (g .m) (g .master), tests-claim bitmap (g .slot) (g .claims), g .fail, tests-rest n (recordAt n (g .m) .vote) (g .rested), f))
       ∙ ap (λ (r : Role). answered (granted (followed r) epoch n) Granted) (sym q)
 
   -- the answer is 10 exactly when every condition holds

@@ -1,12 +1,15 @@
 -- A vote request by its cases, for any statement about its outcome, and the grant as the code makes it.
-use mathlib.Core.Path.{_≡_, refl, sym, ap}
+use mathlib.Core.Path.{_≡_, refl, sym, ap, fun-ext, _∙_}
 use mathlib.Core.Bool.{Bool, true, false}
-use mathlib.Core.List.{List}
+use mathlib.Core.List.{List, [], _∷_}
 use Prim.Native.Nat.{ℕ}
-use lib.Dec.{T}
+use lib.Dec.{T, ltb}
 use lib.ListN.{length, getD, set}
+use borrow.Author.Tests.{ltb-true}
+use Rattle.tables.specs.Checks.{allOf}
 use Rattle.tables.specs.Lists.{firstAt}
 use Rattle.tables.specs.Sizes.{nodeRoom}
+use Rattle.tables.specs.Sets.{claimed}
 use Rattle.tables.proofs.Checks.{never}
 use Rattle.tables.specs.declared.Found.{Found}
 use Rattle.tables.specs.declared.Found.the-variants.{Nothing, At as Slot}
@@ -15,15 +18,16 @@ use Rattle.answers.specs.declared.Answer.the-variants.{Granted, Outdated}
 use Rattle.answers.specs.declared.Check.{Check}
 use Rattle.answers.specs.declared.Check.the-variants.{Passed}
 use Rattle.answers.proofs.Checks.{onCheck, testFor, refuses, past}
-use Rattle.state.specs.Node.{blank, roleAt, followed}
+use Rattle.state.specs.Node.{blank, recordAt, roleAt, followed}
 use Rattle.state.specs.Changes.{withVote, withVoted, withRecords}
 use Rattle.state.specs.Outcomes.{answered}
 use Rattle.state.specs.declared.Node.{Node}
 use Rattle.state.specs.declared.Record.{Record}
 use Rattle.state.specs.declared.Moment.the-variants.{At}
 use Rattle.state.specs.declared.Outcome.{Outcome}
-use Rattle.records.specs.Known.{inRoom, placeOf}
-use Rattle.records.proofs.Known.{changed-there}
+use Rattle.records.specs.Known.{knownConfigs, inRoom, placeOf}
+use Rattle.records.proofs.Known.{known-config, changed-there}
+use Rattle.claims.specs.Claims.{newerOwner}
 use Rattle.votes.specs.Votes.{requestChecks, newer, granted, byOwners, requested}
 
 -- ---- a vote request
@@ -34,7 +38,7 @@ refused-is false e = never (sym e)
 
 module _ (n : Node) (slots bitmap : List ℕ) (candidate epoch config : ℕ) where
   abbrev pub rows : List (Bool × Answer)
-  rows = requestChecks n (roleAt n candidate) epoch
+  rows = requestChecks n (roleAt n candidate) bitmap epoch
 
   -- no check applied, each by the number of its answer
   abbrev pub Unrefused : Type 0
@@ -52,6 +56,14 @@ module _ (n : Node) (slots bitmap : List ℕ) (candidate epoch config : ℕ) whe
       last : Unrefused → (f : Found) → firstAt (newer n bitmap config) slots ≡ f → P (byOwners n (followed (roleAt n candidate)) epoch f)
       last p Nothing e = grants p e
       last p (Slot slot) e = refused (Outdated slot) tt
+
+-- what the search found by the configEpochs that were collected, it found by the records
+pub by-records : (n : Node) (configs slots bitmap : List ℕ) (config : ℕ) (found : Found) → configs ≡ knownConfigs (n .size) (n .records) → found ≡ firstAt (newerOwner (n .size) (λ o. getD configs o 0) bitmap config) slots → found ≡ firstAt (newer n bitmap config) slots
+by-records n configs slots bitmap config found e q = q ∙ ap (λ (p : ℕ → ℕ → Bool). firstAt p slots) (fun-ext (λ slot. fun-ext (λ owner. same owner (claimed bitmap slot) (ltb owner (n .size)) refl)))
+  where
+    same : (owner : ℕ) (c l : Bool) → ltb owner (n .size) ≡ l → allOf (c ∷ l ∷ ltb config (getD configs owner 0) ∷ []) ≡ allOf (c ∷ l ∷ ltb config (recordAt n owner .config) ∷ [])
+    same owner c true h = rw (e, known-config (n .size) (n .records) owner (ltb-true owner (n .size) h))
+    same owner c false h = refl
 
 -- the owners decide where no check refused, by what the search found
 pub passed : (n : Node) (m epoch : ℕ) (f found g : Found) (check : Check) → check ≡ Passed → found ≡ f → found ≡ g → onCheck (answered n) (byOwners n m epoch f) check ≡ byOwners n m epoch g

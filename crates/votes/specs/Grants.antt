@@ -1,5 +1,5 @@
--- When a vote is granted: the conditions of document 01, "Vote request", each as a statement; and what a request makes of
--- the node. Now is the clock.
+-- When a vote is granted: the conditions of document 01, "Vote request", and of document 02, [10], each as a statement; and
+-- what a request makes of the node. Now is the clock.
 use Prim.Native.Nat.{ℕ, _*_, _≤_, _<_}
 use mathlib.Core.Path.{_≡_}
 use mathlib.Core.Bool.{true}
@@ -37,6 +37,9 @@ pub record Grantable (n : Node) (slots bitmap : List ℕ) (candidate epoch confi
   pub m : ℕ
   pub candidate-follows : ListedReplica n candidate m
   pub master : ListedMaster n m
+  -- the request claims some slot, whoever owns it
+  pub slot : ℕ
+  pub claims : claimed bitmap slot ≡ true
   -- that master is FAIL, since some time
   pub since : ℕ
   pub fail : recordAt n m .flag ≡ Fail since

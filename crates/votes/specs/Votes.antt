@@ -1,17 +1,17 @@
--- A vote request, past the refusals: document 01, "Vote request". Now is the clock.
+-- A vote request, past the refusals: document 01, "Vote request", and document 02, [10]. Now is the clock.
 use Prim.Native.Nat.{ℕ}
 use mathlib.Core.Bool.{Bool, false, not}
 use mathlib.Core.List.{List, [], _∷_}
 use lib.Dec.{ltb, leb}
-use Rattle.tables.specs.Checks.{checked, allOf}
+use Rattle.tables.specs.Checks.{checked}
 use Rattle.tables.specs.Lists.{firstAt}
-use Rattle.tables.specs.Sets.{claimed}
 use Rattle.tables.specs.declared.Found.{Found}
 use Rattle.tables.specs.declared.Found.the-variants.{Nothing, At as Slot}
 use Rattle.ages.specs.Ages.{age, underTwice}
+use Rattle.claims.specs.Claims.{empty, newerOwner}
 use Rattle.answers.specs.declared.Answer.{Answer}
-use Rattle.answers.specs.declared.Answer.the-variants.{Granted, NotMaster, StaleEpoch, AlreadyVoted, NoListedMaster, MasterNotFailed, VotedLately, Outdated}
-use Rattle.state.specs.Node.{recordAt, masterAt, listed, isFail, roleAt, followed}
+use Rattle.answers.specs.declared.Answer.the-variants.{Granted, NotMaster, StaleEpoch, AlreadyVoted, NoListedMaster, ClaimsNothing, MasterNotFailed, VotedLately, Outdated}
+use Rattle.state.specs.Node.{recordAt, masterAt, isFail, roleAt, followed}
 use Rattle.state.specs.Changes.{withVote, withVoted, onRecord}
 use Rattle.state.specs.Outcomes.{answered}
 use Rattle.state.specs.declared.Node.{Node}
@@ -31,20 +31,21 @@ abbrev pub lately : Node → Moment → Bool
 lately n Never = false
 lately n (At t) = underTwice (n .timeout) (age (n .clock) t)
 
--- 11 to 16, for a candidate of that role
-abbrev pub requestChecks : Node → Role → ℕ → List (Bool × Answer)
-requestChecks n role epoch =
+-- 11 to 14, 18, 15 and 16, in that order, for a candidate of that role
+abbrev pub requestChecks : Node → Role → List ℕ → ℕ → List (Bool × Answer)
+requestChecks n role bitmap epoch =
     (not (masterAt n (n .me)), NotMaster)
     ∷ (ltb epoch (n .current), StaleEpoch)
     ∷ (leb epoch (n .voted), AlreadyVoted)
     ∷ (not (followsMaster n role), NoListedMaster)
+    ∷ (empty bitmap, ClaimsNothing)
     ∷ (not (isFail (recordAt n (followed role) .flag)), MasterNotFailed)
     ∷ (lately n (recordAt n (followed role) .vote), VotedLately)
     ∷ []
 
 -- 17: a claimed slot has an owner, anyone in the roster, with a configEpoch above the request's
 abbrev pub newer : Node → List ℕ → ℕ → ℕ → ℕ → Bool
-newer n bitmap config slot owner = allOf (claimed bitmap slot ∷ listed n owner ∷ ltb config (recordAt n owner .config) ∷ [])
+newer n bitmap config = newerOwner (n .size) (λ o. recordAt n o .config) bitmap config
 
 -- 10: lastVoteEpoch is the epoch, and the vote time of the candidate's master is now
 unfoldable pub granted : ℕ → ℕ → Node → Node
@@ -58,4 +59,4 @@ byOwners n m epoch Nothing = answered (granted m epoch n) Granted
 unfoldable pub requested : Node → List ℕ → List ℕ → ℕ → ℕ → ℕ → Outcome
 requested n slots bitmap candidate epoch config =
     let role = roleAt n candidate in
-    checked (answered n) (requestChecks n role epoch) (byOwners n (followed role) epoch (firstAt (newer n bitmap config) slots))
+    checked (answered n) (requestChecks n role bitmap epoch) (byOwners n (followed role) epoch (firstAt (newer n bitmap config) slots))

@@ -1,13 +1,10 @@
-// A vote request: document 01, "Vote request". The node is copied once and changed in place; a struct that is handed on costs a
+// A vote request: document 01, "Vote request", and document 02, [10]. The node is copied once and changed in place; a struct that is handed on costs a
 // copy, so the functions here take the node for its numbers and the records beside it.
 ghost use mathlib.Core.Path.{_≡_};
 ghost use Rattle.tables.specs.Checks.{checked};
-ghost use Rattle.tables.specs.Lists.{firstAt};
-ghost use Rattle.tables.specs.Sets.{claimed};
 ghost use Rattle.answers.specs.declared.Check.the-variants.{Passed, Refused};
 ghost use Rattle.state.specs.Node.{recordAt, roleAt, followed};
-ghost use Rattle.records.specs.Known.{knownConfigs};
-ghost use Rattle.votes.specs.Votes.{followsMaster, lately, requestChecks, newer, requested};
+ghost use Rattle.votes.specs.Votes.{followsMaster, lately, requestChecks, requested};
 use answers::Answer;
 use answers::Check;
 use state::Moment;
@@ -56,11 +53,18 @@ fn lately(node: Node, vote: Moment) -> bool
     }
 }
 
-// 11 to 16, by what is known of this node and of the one that the candidate follows.
-fn request_refusal(node: Node, mine: Record, role: Role, known: Record, epoch: u64) -> Check
+// 11 to 16 and 18, by what is known of this node and of the one that the candidate follows.
+fn request_refusal(
+    node: Node,
+    mine: Record,
+    role: Role,
+    known: Record,
+    bitmap: &[u8],
+    epoch: u64,
+) -> Check
     requires { ⌜ mine ≡ recordAt node (node .me) ⌝ }
     requires { ⌜ known ≡ recordAt node (followed role) ⌝ }
-    ensures { λ r. ⌜ r ≡ checked Refused (requestChecks node role epoch) Passed ⌝ }
+    ensures { λ r. ⌜ r ≡ checked Refused (requestChecks node role (now (bitmap .entry)) epoch) Passed ⌝ }
 {
     if node.me >= node.size {
         return Check::Refused(Answer::NotMaster);
@@ -78,6 +82,9 @@ fn request_refusal(node: Node, mine: Record, role: Role, known: Record, epoch: u
     if !follows_master(node, role, known) {
         return Check::Refused(Answer::NoListedMaster);
     }
+    if claims::empty(bitmap) {
+        return Check::Refused(Answer::ClaimsNothing);
+    }
     let flag = known.flag;
     if !state::is_fail(flag) {
         return Check::Refused(Answer::MasterNotFailed);
@@ -87,41 +94,6 @@ fn request_refusal(node: Node, mine: Record, role: Role, known: Record, epoch: u
         return Check::Refused(Answer::VotedLately);
     }
     Check::Passed
-}
-
-fn claimed(bitmap: &[u8], slot: usize) -> bool
-    ensures { λ r. ⌜ r ≡ claimed (now (bitmap .entry)) slot ⌝ }
-{
-    let k = slot / 8;
-    if k < bitmap.len() {
-        return (bitmap[k] >> (slot % 8)) % 2 == 1;
-    }
-    false
-}
-
-// The lowest claimed slot whose owner is newer than the candidate, by the known configEpochs.
-fn first_newer(node: Node, configs: &[u64], slots: &[u16], bitmap: &[u8], config: u64) -> Found
-    requires { ⌜ now configs ≡ knownConfigs (node .size) (node .records) ⌝ }
-    ensures { λ r. ⌜ r ≡ firstAt (newer node (now (bitmap .entry)) config) (now (slots .entry)) ⌝ }
-{
-    let mut s: usize = 0;
-    while s < slots.len() {
-        if !claimed(bitmap, s) {
-            s += 1;
-            continue;
-        }
-        let owner = slots[s];
-        if owner >= node.size {
-            s += 1;
-            continue;
-        }
-        if records::known_at(configs, owner as usize) <= config {
-            s += 1;
-            continue;
-        }
-        return Found::At(s);
-    }
-    Found::Nothing
 }
 
 // A vote request, after the clock and currentEpoch have moved.
@@ -147,7 +119,7 @@ pub fn request(
     let at = records::place_of(m);
     let there = next.records[at];
     let known = records::known_of(m, there);
-    let check = request_refusal(next, mine, role, known, epoch);
+    let check = request_refusal(next, mine, role, known, bitmap, epoch);
     let mut answer = Answer::Granted;
     match check {
         Check::Refused(why) => answer = why,
@@ -160,7 +132,7 @@ pub fn request(
                 configs[k] = other.config;
                 k += 1;
             }
-            match first_newer(next, &configs, slots, bitmap, config) {
+            match claims::first_newer(next.size, &configs, slots, bitmap, config) {
                 Found::At(slot) => answer = Answer::Outdated(slot),
                 Found::Nothing => {
                     let voted = changes::with_vote(there, Moment::At(next.clock));

@@ -14,7 +14,7 @@ use Rattle.state.specs.declared.Node.{Node}
 use Rattle.records.specs.Known.{knownConfigs}
 use Rattle.records.proofs.Known.{Collected, collected-none, collected-more, collected-all, place-inside, listed-inside, known-there}
 use Rattle.votes.specs.Votes.{requestChecks, newer, granted, byOwners, requested}
-use Rattle.votes.proofs.Steps.{passed, granted-there}
+use Rattle.votes.proofs.Steps.{by-records, passed, granted-there}
 use borrow.Author.Needs.{needs}
 use Rattle.votes.proofs.request.Statement.{statement}
 use Rattle.votes.proofs.request.Tie as tie
@@ -57,13 +57,18 @@ collected : (c : tie.After-loop Inv-loop μ-loop) → let n = begun (c .before .
 collected c = let l = c .before .loop in let s = begun (c .before .before .before .before .before) in
     collected-all (s .args .node .records) (long s) (l .configs) (s .args .node .size) (l .k) (l .inv .1) (rw (← c .before .before .listed .ensures) (c .loop-test .left)) (rw (← c .before .before .listed .ensures) (l .inv .0))
 
+-- what was found, by the records
+found : (c : tie.After-first-newer Inv-loop μ-loop) → let a = begun (checked-at (c .before)) .args in c .first-newer .result ≡ firstAt (newer (a .node) (a .bitmap .now) (a .config)) (a .slots .now)
+found c = let a = begun (checked-at (c .before)) .args in
+    by-records (a .node) _ (a .slots .now) (a .bitmap .now) (a .config) _ (collected (c .before .before)) (c .first-newer .ensures)
+
 -- the definition, by what the checks came to
 by-checks : (c : tie.After-request-refusal Inv-loop μ-loop) → let a = begun c .args in
     requested (a .node) (a .slots .now) (a .bitmap .now) (a .candidate) (a .epoch) (a .config)
     ≡ onCheck (answered (a .node)) (byOwners (a .node) (followed (c .before .before .before .before .before .role-of .result)) (a .epoch) (firstAt (newer (a .node) (a .bitmap .now) (a .config)) (a .slots .now))) (c .request-refusal .result)
 unfolding requested
 by-checks c = let a = begun c .args in
-    rw (← c .before .before .before .before .before .role-of .ensures) (by-check (answered (a .node)) (requestChecks (a .node) (c .before .before .before .before .before .role-of .result) (a .epoch)) _ ∙ ap (onCheck (answered (a .node)) _) (sym (c .request-refusal .ensures)))
+    rw (← c .before .before .before .before .before .role-of .ensures) (by-check (answered (a .node)) (requestChecks (a .node) (c .before .before .before .before .before .role-of .result) (a .bitmap .now) (a .epoch)) _ ∙ ap (onCheck (answered (a .node)) _) (sym (c .request-refusal .ensures)))
 
 cast-me : tie.Need-cast-me Inv-loop μ-loop
 cast-me c = search needs
@@ -157,7 +162,7 @@ slice-aggregate-first-newer : tie.Need-slice-aggregate-first-newer Inv-loop μ-l
 slice-aggregate-first-newer c = search needs
 
 first-newer-requires : tie.Need-first-newer-requires Inv-loop μ-loop
-first-newer-requires c κs = collected (c .before)
+first-newer-requires c κs = search needs
 
 enum-known-slot : tie.Need-enum-known-slot Inv-loop μ-loop
 enum-known-slot c = search needs
@@ -171,8 +176,8 @@ with-vote-requires c κs = search needs
 kept-of-requires : tie.Need-kept-of-requires Inv-loop μ-loop
 kept-of-requires c κs = search needs
 
-mul-t53 : tie.Need-mul-t53 Inv-loop μ-loop
-mul-t53 c = let h = at-inside (checked-at (c .before .before .before .before .before) .before .before .before) in omega arith
+mul-t52 : tie.Need-mul-t52 Inv-loop μ-loop
+mul-t52 c = let h = at-inside (checked-at (c .before .before .before .before .before) .before .before .before) in omega arith
 
 element-set-from-next : tie.Need-element-set-from-next Inv-loop μ-loop
 element-set-from-next c = let h = at-inside (checked-at (c .before .before .before .before .before) .before .before .before) in omega arith
@@ -182,13 +187,13 @@ returns c = sym (by-checks (c .before .before .before) ∙ rw (c .before .check 
 
 returns-2 : tie.Need-returns-2 Inv-loop μ-loop
 returns-2 c = let f = c .before .before .before in
-    sym (by-checks (checked-at (f .before)) ∙ passed _ _ _ _ _ _ _ (f .before .before .before .before .before .enum-told .given .1) (f .first-newer .ensures) (c .before .slot .given .1))
+    sym (by-checks (checked-at (f .before)) ∙ passed _ _ _ _ _ _ _ (f .before .before .before .before .before .enum-told .given .1) (found f) (c .before .slot .given .1))
 
 returns-3 : tie.Need-returns-3 Inv-loop μ-loop
 unfolding withRecords withVoted
 returns-3 c = let f = c .before .before .before .before in let r = checked-at (f .before) in let s = begun r in
     sym (by-checks r
-    ∙ passed _ _ _ _ _ _ _ (f .before .before .before .before .before .enum-told .given .1) (f .first-newer .ensures) (c .before .before .enum-told2 .given .1)
+    ∙ passed _ _ _ _ _ _ _ (f .before .before .before .before .before .enum-told .given .1) (found f) (c .before .before .enum-told2 .given .1)
     ∙ ap (λ (m : ℕ). answered (granted m (s .args .epoch) (s .args .node)) Granted) (sym (r .before .before .before .before .followed .ensures))
     ∙ ap (λ (n : Node). answered n Granted) (sym (granted-there (s .args .node) (long s) (r .before .before .before .before .followed .result) (s .args .epoch) _ _ _ _ (r .before .before .before .place-of3 .ensures) refl (c .before .with-vote .ensures) (c .kept-of .ensures))))
 
@@ -232,7 +237,7 @@ request-spec =
     enum-told-2
     with-vote-requires
     kept-of-requires
-    mul-t53
+    mul-t52
     element-set-from-next
     returns
     returns-2

@@ -1,11 +1,11 @@
--- `votes::claimed` meets its contract.
+-- `claims::claimed` meets its contract.
 use mathlib.Core.Path.{sym}
 use Prim.Native.Nat.{_%_}
 use lib.ListN.{List·getD-eq-default}
 use Rattle.tables.proofs.Sets.{bit-zero}
 use borrow.Author.Needs.{needs}
-use Rattle.votes.proofs.claimed.Statement.{statement}
-use Rattle.votes.proofs.claimed.Tie as tie
+use Rattle.claims.proofs.claimed.Statement.{statement}
+use Rattle.claims.proofs.claimed.Tie as tie
 
 shared-slice-read-result : tie.Need-shared-slice-read-result
 shared-slice-read-result c = search needs
