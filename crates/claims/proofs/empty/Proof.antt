@@ -24,7 +24,7 @@ shared-slice-read-if1 c = search needs
 returns : tie.Need-returns Inv-loop μ-loop
 returns c =
     let k = c .before .before .before .loop .k in
-    sym (c .before .before .before .loop .inv .1 ∙ empty-here _ k (c .before .before .loop-test .taken) (omega (arith, c .before .shared-slice-known .given k)) (c .if1 .taken))
+    sym (c .before .before .before .loop .inv .1 ∙ empty-here _ k (c .before .before .loop-test .taken) (omega (arith, c .before .shared-slice-known .given k)) (λ z. c .if1 .taken (omega (arith, z))))
 
 add-k : tie.Need-add-k Inv-loop μ-loop
 add-k c = search needs
@@ -33,7 +33,7 @@ loop-less : tie.Need-loop-less Inv-loop μ-loop
 loop-less c = search needs
 
 loop-again : tie.Need-loop-again Inv-loop μ-loop
-loop-again c = (search needs, c .before .before .before .loop .inv .1 ∙ empty-past _ _ (c .before .before .loop-test .taken) (c .if1 .left))
+loop-again c = (search needs, c .before .before .before .loop .inv .1 ∙ empty-past _ _ (c .before .before .loop-test .taken) (omega (arith, c .if1 .left)))
 
 returns-2 : tie.Need-returns-2 Inv-loop μ-loop
 returns-2 c = sym (c .before .loop .inv .1 ∙ empty-ended _ _ (c .loop-test .left))

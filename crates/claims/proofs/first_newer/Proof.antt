@@ -16,6 +16,9 @@ Inv-loop size configs slots bitmap config s₀ s = Looked (newerOwner size (λ o
 abbrev μ-loop : tie.MeasureT-loop
 μ-loop size configs slots bitmap config s₀ s = length slots - s
 
+abbrev start : tie.At-loop Inv-loop μ-loop → tie.Start Inv-loop μ-loop
+start c = c .before .before .before .before
+
 loop-holds : tie.Need-loop-holds Inv-loop μ-loop
 loop-holds c = looked-none _ _
 
@@ -44,7 +47,7 @@ loop-less-2 : tie.Need-loop-less-2 Inv-loop μ-loop
 loop-less-2 c = search needs
 
 loop-again-2 : tie.Need-loop-again-2 Inv-loop μ-loop
-loop-again-2 c = looked-more _ _ _ (c .before .before .before .before .before .loop .inv) (c .before .before .before .before .loop-test .taken) (rw (yes (c .before .before .before .claimed .ensures) (c .before .before .if1 .left), le-ltb _ _ (c .if2 .taken)))
+loop-again-2 c = looked-more _ _ _ (c .before .before .before .before .before .loop .inv) (c .before .before .before .before .loop-test .taken) (rw (yes (c .before .before .before .claimed .ensures) (c .before .before .if1 .left), le-ltb (getD (start (c .before .before .before .before .before) .args .slots .now) (c .before .before .before .before .before .loop .s) 0) (start (c .before .before .before .before .before) .args .size) (omega (arith, c .if2 .taken))))
 
 cast-known-at : tie.Need-cast-known-at Inv-loop μ-loop
 cast-known-at c = omega (arith, c .before .shared-slice-known4 .given (c .before .before .before .before .before .loop .s))
@@ -59,7 +62,7 @@ loop-less-3 : tie.Need-loop-less-3 Inv-loop μ-loop
 loop-less-3 c = search needs
 
 loop-again-3 : tie.Need-loop-again-3 Inv-loop μ-loop
-loop-again-3 c = looked-more _ _ _ (c .before .before .before .before .before .before .before .loop .inv) (c .before .before .before .before .before .before .loop-test .taken) (rw (yes (c .before .before .before .before .before .claimed .ensures) (c .before .before .before .before .if1 .left), lt-ltb _ _ (c .before .before .if2 .left), ← c .before .known-at .ensures, le-ltb _ _ (c .if3 .taken)))
+loop-again-3 c = looked-more _ _ _ (c .before .before .before .before .before .before .before .loop .inv) (c .before .before .before .before .before .before .loop-test .taken) (rw (yes (c .before .before .before .before .before .claimed .ensures) (c .before .before .before .before .if1 .left), lt-ltb _ _ (c .before .before .if2 .left), ← c .before .known-at .ensures, le-ltb (start (c .before .before .before .before .before .before .before) .args .config) (c .before .known-at .result) (omega (arith, c .if3 .taken))))
 
 returns : tie.Need-returns Inv-loop μ-loop
 returns c = looked-here _ _ _ (c .before .before .before .before .before .before .before .loop .inv) (c .before .before .before .before .before .before .loop-test .taken) (rw (yes (c .before .before .before .before .before .claimed .ensures) (c .before .before .before .before .if1 .left), lt-ltb _ _ (c .before .before .if2 .left), ← c .before .known-at .ensures, lt-ltb _ _ (c .if3 .left)))
