@@ -1,6 +1,7 @@
 -- Lines of a run's file: what stands between two places of the buffer, and the line that is found there.
 use Prim.Native.Nat.{ℕ, _+_, _-_}
-use mathlib.Core.Bool.{Bool, cond}
+use mathlib.Core.Path.{_≡_}
+use mathlib.Core.Bool.{Bool, true, cond}
 use mathlib.Core.List.{List, []}
 use lib.ListN.{length, take, drop}
 use lib.Dec.{ltb}
@@ -47,3 +48,13 @@ takesOn s piece = takenOn s (takes (soFar (s .found) (s .line)) piece)
 -- from what the buffer has of it
 abbrev pub inBuffer : Source → List ℕ → Reading
 inBuffer s buf = takesOn (readAs s) (between buf (s .rest) (s .end))
+
+-- what comes of that: where the line has ended, it is the next one; else more of it is read, and the line so far is kept
+abbrev pub goesOn : Reading → Reading → Type 0
+goesOn there r = (r .line ≡ there .line) × (there .found ≡ true → r ≡ there)
+
+-- nothing more comes: what is kept is a line too, and where nothing is kept all lines were found
+abbrev pub closes : Source → Source
+closes s =
+    let last = ltb 0 (s .kept .length) in
+    record { fd = s .fd; found = cond last true (s .found); kept = s .kept; rest = s .rest; end = s .end; count = cond last (next (s .count)) (s .count); closed = true; ended = cond last (s .ended) true }

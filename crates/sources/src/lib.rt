@@ -4,7 +4,7 @@ ghost use mathlib.Core.Bool.{true, false, cond};
 ghost use mathlib.Core.List.{[]};
 ghost use Prim.Native.Nat.{_<_};
 ghost use Rattle.scraps.specs.Scraps.{short, partOf};
-ghost use Rattle.sources.specs.Sources.{further, next, between, soFar, readAs, takesOn, inBuffer};
+ghost use Rattle.sources.specs.Sources.{further, next, between, soFar, readAs, takesOn, inBuffer, goesOn, closes};
 use scraps::Kept;
 
 // Where lines are read from, and the next one.
@@ -99,7 +99,9 @@ fn taken(past: Source, rest: &[u8]) -> Source
 }
 
 // Nothing more comes. A last line without a newline is a line too.
-fn close(past: Source) -> Source {
+fn close(past: Source) -> Source
+    ensures { λ r. ⌜ r ≡ closes past ⌝ }
+{
     let kept = past.kept;
     let mut here = past;
     here.closed = true;
@@ -113,7 +115,10 @@ fn close(past: Source) -> Source {
 }
 
 // Reads once. Where reading fails the reason is named, and what came before it counts.
-fn more(buf: &mut [u8], past: Source) -> Source {
+// What is kept of the line stays: the buffer is written over, so it stands nowhere else.
+fn more(buf: &mut [u8], past: Source) -> Source
+    ensures { λ r. ⌜ partOf (r .kept) ≡ partOf (past .kept) ⌝ }
+{
     let mut here = past;
     here.rest = 0;
     here.end = 0;
@@ -133,9 +138,10 @@ fn more(buf: &mut [u8], past: Source) -> Source {
     here
 }
 
-// The next line, or what is read once to find it. A line of which some was handed over is the next one again.
+// The next line, or what is read once to find it: then what the buffer had of the line is kept.
+// A line of which some was handed over is the next one again.
 pub fn next_line(buf: &mut [u8], past: Source, handed: usize) -> Source
-    ensures { λ r. ⌜ (0 < handed → r ≡ past) × (handed ≡ 0 → inBuffer past (now (buf .entry)) .found ≡ true → readAs r ≡ inBuffer past (now (buf .entry))) ⌝ }
+    ensures { λ r. ⌜ (0 < handed → r ≡ past) × (handed ≡ 0 → goesOn (inBuffer past (now (buf .entry))) (readAs r)) ⌝ }
 {
     if handed > 0 {
         return past;

@@ -1,4 +1,4 @@
--- `sources::next_line` meets its contract: where the line ends in the buffer, it is what the buffer has of it.
+-- `sources::next_line` meets its contract: where the line ends in the buffer, it is what the buffer has of it, and else `more` keeps that.
 use mathlib.Core.Path.{_≡_, refl, sym, ap, _∙_}
 use mathlib.Core.Bool.{true, false}
 use Prim.Native.Nat.{ℕ}
@@ -13,16 +13,17 @@ there : (c : tie.After-taken) → readAs (c .taken .result) ≡ inBuffer (c .bef
 there c = rw (← c .before .part .ensures) (c .taken .ensures)
 
 returns : tie.Need-returns
-returns c = (λ h. refl, λ e f. absurd (omega (arith, c .if1 .taken)))
+returns c = (λ h. refl, λ e. absurd (omega (arith, c .if1 .taken)))
 
 returns-2 : tie.Need-returns-2
-returns-2 c = (λ h. absurd (omega (arith, c .before .before .before .before .if1 .left)), λ e f. there (c .before))
+returns-2 c = (λ h. absurd (omega (arith, c .before .before .before .before .if1 .left)), λ e. (ap (λ (r : Reading). r .line) (there (c .before)), λ f. there (c .before)))
 
 returns-3 : tie.Need-returns-3
 returns-3 c =
-    let left = c .before .before .before .before in
+    let more = c .before .before in
+    let left = more .before .before in
     let at = left .before in
-    (λ h. absurd (omega (arith, at .before .before .before .if1 .left)), λ e f. absurd (apart (sym (ap (λ (r : Reading). r .found) (there at) ∙ f) ∙ left .if2 .left)))
+    (λ h. absurd (omega (arith, at .before .before .before .if1 .left)), λ e. (more .more .ensures ∙ ap (λ (r : Reading). r .line) (there at), λ f. absurd (apart (sym (ap (λ (r : Reading). r .found) (there at) ∙ f) ∙ left .if2 .left))))
   where
     apart : true ≡ false → ⊥
     apart e = let z : _≡_ {A = ℕ} 0 1 = cc in omega arith
