@@ -9,11 +9,12 @@ use native.Mathlib.Omega.{arith}
 use native.Mathlib.Decide.{decLt, ℕ-discrete}
 use lib.Dec.{eqb}
 use lib.ListN.{length, getD, drop, drop-of-length-le}
-use lib.Pow.{shr-shr, mod-pow-add}
+use lib.Pow.{mod-pow-add}
 use lib.Seq.{drop-cons}
 use borrow.Author.Tests.{eq-eqb, ne-eqb, eqb-true, eqb-false}
 use Rattle.tables.specs.Sets.{bit, claimed}
 use Rattle.tables.proofs.Checks.{never}
+use Rattle.tables.proofs.Groups.{first-group, later-group, bit-half}
 use Rattle.tables.proofs.Sets.{bit-zero}
 use Rattle.claims.specs.Claims.{empty, EmptyExactly}
 
@@ -34,23 +35,20 @@ module _ (bitmap : List ℕ) (k : ℕ) where
 low-apart : (b n : ℕ) → b % 2 ^ suc n ≡ b / 2 % 2 ^ n * 2 + b % 2
 low-apart b n = rw (← add-one n) (mod-pow-add b n 1)
 
-bit-above : (b k : ℕ) → bit b (suc k) ≡ bit (b / 2) k
-bit-above b k = ap (λ (x : ℕ). eqb (x % 2) 1) (ap (λ (x : ℕ). b / 2 ^ x) (one-add k) ∙ sym (shr-shr b 1 k))
-  where
-    one-add : (m : ℕ) → suc m ≡ 1 + m
-    one-add m = omega arith
+bit-suc : (b k : ℕ) → bit b (suc k) ≡ bit (b / 2) k
+bit-suc b k = let e : suc k ≡ 1 + k = omega arith in ap (bit b) e ∙ sym (bit-half b k)
 
 no-bit : (n b k : ℕ) → k < n → b % 2 ^ n ≡ 0 → bit b k ≡ false
 no-bit zero b k h e = absurd (omega arith)
 no-bit (suc n) b zero h e = ne-eqb (b / 1 % 2) 1 (λ q. omega (arith, low-apart b n, e))
-no-bit (suc n) b (suc k) h e = bit-above b k ∙ no-bit n (b / 2) k (le-of-suc-le-suc h) (omega (arith, low-apart b n, e))
+no-bit (suc n) b (suc k) h e = bit-suc b k ∙ no-bit n (b / 2) k (le-of-suc-le-suc h) (omega (arith, low-apart b n, e))
 
 -- one of the lowest bits is set
 abbrev Some : ℕ → ℕ → Type 0
 Some n b = (k : ℕ) × ((k < n) × (bit b k ≡ true))
 
 above : (b n : ℕ) → Some n (b / 2) → Some (suc n) b
-above b n r = (suc (r .0), (omega (arith, r .1 .0), bit-above b (r .0) ∙ r .1 .1))
+above b n r = (suc (r .0), (omega (arith, r .1 .0), bit-suc b (r .0) ∙ r .1 .1))
 
 some-bit : (n b : ℕ) → (b % 2 ^ n ≡ 0 → ⊥) → Some n b
 some-bit zero b d = absurd (d (mod-one b))
@@ -63,16 +61,10 @@ some-bit (suc n) b d = go (ℕ-discrete (b / 1 % 2) 1) (some-bit n (b / 2))
 -- ---- a slot of the first byte, and of a later one
 
 claimed-low : (b : ℕ) (bs : List ℕ) (s : ℕ) → s < 8 → claimed (b ∷ bs) s ≡ bit b s
-claimed-low b bs s h =
-    let d : s / 8 ≡ 0 = omega arith in
-    let m : s % 8 ≡ s = omega arith in
-    rw (d, m)
+claimed-low = first-group 8
 
 claimed-high : (b : ℕ) (bs : List ℕ) (s : ℕ) → claimed (b ∷ bs) (8 + s) ≡ claimed bs s
-claimed-high b bs s =
-    let d : (8 + s) / 8 ≡ suc (s / 8) = omega arith in
-    let m : (8 + s) % 8 ≡ s % 8 = omega arith in
-    rw (d, m)
+claimed-high = later-group 8 (omega arith)
 
 -- ---- an empty bitmap claims no slot, and any other one claims some slot
 

@@ -18,6 +18,7 @@ use Rattle.tables.specs.Below.{count}
 use Rattle.tables.specs.Sets.{bit, has, add, size, AllFit, majority, wordOf, wordsFrom}
 use Rattle.tables.specs.Majorities.{Within, Majority, Meet, MajoritiesMeet}
 use Rattle.tables.proofs.Below.{count-like}
+use Rattle.tables.proofs.Groups.{first-group, later-group}
 
 -- ---- two majorities of one set meet, for sets as tests
 
@@ -97,17 +98,11 @@ unfolding count
 count-split p a zero = rw add-zero (sym (add-zero (count p a)))
 count-split p a (suc m) = rw (add-suc a m, count-step p (a + m), count-step (λ k. p (a + k)) m) (omega (arith, count-split p a m))
 
-has-low : (w : ℕ) (ws : List ℕ) (k : ℕ) → k < 64 → has (w ∷ ws) k ≡ bit w k
-has-low w ws k h =
-    let d : k / 64 ≡ 0 = omega arith in
-    let m : k % 64 ≡ k = omega arith in
-    rw (d, m)
+pub has-low : (w : ℕ) (ws : List ℕ) (k : ℕ) → k < 64 → has (w ∷ ws) k ≡ bit w k
+has-low = first-group 64
 
-has-high : (w : ℕ) (ws : List ℕ) (k : ℕ) → has (w ∷ ws) (64 + k) ≡ has ws k
-has-high w ws k =
-    let d : (64 + k) / 64 ≡ suc (k / 64) = omega arith in
-    let m : (64 + k) % 64 ≡ k % 64 = omega arith in
-    rw (d, m)
+pub has-high : (w : ℕ) (ws : List ℕ) (k : ℕ) → has (w ∷ ws) (64 + k) ≡ has ws k
+has-high = later-group 64 (omega arith)
 
 pub count-size : (ws : List ℕ) → AllFit ws → count (has ws) (64 * length ws) ≡ size ws
 unfolding count

@@ -13,11 +13,12 @@ use lib.Bits.{bitAnd, bitOr, and-shr, and-mod, and-step, and-zero-l, and-le-r, o
 use lib.Dec.{eqb, ltb}
 use lib.ListN.{length, getD, set, List·getD-eq-default}
 use lib.Seq.{set-out}
-use lib.Pow.{pow-pos, pow-mono, pow-lt, split, shr-shr}
+use lib.Pow.{pow-pos, pow-mono, pow-lt, split}
 use borrow.Author.Tests.{lt-ltb, le-ltb, ltb-true, eq-eqb, ne-eqb, eqb-true}
 use Rattle.tables.specs.Sets.{bit, has, add, AllFit, majority, within, below, wordOf}
 use Rattle.tables.proofs.Checks.{never}
-use Rattle.tables.proofs.Sets.{bit-zero, bit-past}
+use Rattle.tables.proofs.Groups.{bit-half}
+use Rattle.tables.proofs.Sets.{bit-zero, bit-past, has-low, has-high}
 
 two : 0 < 2
 two = omega arith
@@ -93,9 +94,6 @@ small w n = by (decLt w (2 ^ n))
         left e = let s : 0 * 2 ^ n + w % 2 ^ n ≡ w = ap (λ (x : ℕ). x * 2 ^ n + w % 2 ^ n) (sym e) ∙ split w n in omega (arith, mod-lt w (pow-pos n))
 
 -- the bits of a half
-bit-half : (w k : ℕ) → bit (w / 2) k ≡ bit w (1 + k)
-bit-half w k = ap (λ (x : ℕ). eqb (x % 2) 1) (shr-shr w 1 k)
-
 bit-odd : (w : ℕ) → w % 2 ≡ 1 → bit w 0 ≡ true
 bit-odd w e = let d : w / 1 ≡ w = omega arith in rw (d, e)
 
@@ -130,18 +128,6 @@ small-bits = bin-ind (λ w. (n : ℕ) → ((k : ℕ) → bit w k ≡ true → k 
     half w g (suc n) f = let z : w / 2 < 2 ^ n = g n (λ k e. let l : 1 + k < suc n = f (1 + k) (sym (bit-half w k) ∙ e) in omega arith) in rw (pow-suc 2 n) (omega arith)
 
 -- ---- the first word, and the others
-
-has-low : (w : ℕ) (ws : List ℕ) (k : ℕ) → k < 64 → has (w ∷ ws) k ≡ bit w k
-has-low w ws k h =
-    let d : k / 64 ≡ 0 = omega arith in
-    let m : k % 64 ≡ k = omega arith in
-    rw (d, m)
-
-has-high : (w : ℕ) (ws : List ℕ) (k : ℕ) → has (w ∷ ws) (64 + k) ≡ has ws k
-has-high w ws k =
-    let d : (64 + k) / 64 ≡ suc (k / 64) = omega arith in
-    let m : (64 + k) % 64 ≡ k % 64 = omega arith in
-    rw (d, m)
 
 has-past : (w : ℕ) (ws : List ℕ) (k : ℕ) → 64 ≤ k → has (w ∷ ws) k ≡ has ws (k - 64)
 has-past w ws k h = let e : k ≡ 64 + (k - 64) = omega arith in ap (has (w ∷ ws)) e ∙ has-high w ws (k - 64)
