@@ -7,7 +7,7 @@ use lib.Dec.{eqb, ltb}
 use Rattle.tables.specs.Checks.{allOf}
 use Rattle.tables.specs.Sets.{claimed}
 
--- 18: of no byte is one of the eight bits set; whose slots they stand for is not asked
+-- 18: no byte has one of its eight bits set; who owns the slots is not asked
 abbrev pub empty : List ℕ → Bool
 empty [] = true
 empty (b ∷ bs) = cond (eqb (b % 256) 0) (empty bs) false

@@ -31,7 +31,7 @@ fn claimed(bitmap: &[u8], slot: usize) -> bool
     false
 }
 
-// The lowest claimed slot whose owner, one of so many nodes, has a known configEpoch above that one.
+// The lowest claimed slot whose owner, one of so many nodes, has a known configEpoch above the request's.
 pub fn first_newer(size: u16, configs: &[u64], slots: &[u16], bitmap: &[u8], config: u64) -> Found
     ensures { λ r. ⌜ r ≡ firstAt (newerOwner size (λ o. getD (now (configs .entry)) o 0) (now (bitmap .entry)) config) (now (slots .entry)) ⌝ }
 {
