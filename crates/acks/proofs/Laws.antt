@@ -6,23 +6,27 @@ use Prim.Native.Nat.{ℕ, zero, suc, _*_}
 use native.Mathlib.Omega.{arith}
 use lib.ListN.{getD, set}
 use lib.Seq.{set-getD, getD-set-other}
-use borrow.Author.Tests.{ltb-true, ltb-false}
+use borrow.Author.Tests.{lt-ltb, ltb-true, ltb-false}
+use Rattle.tables.specs.Lists.{changedFrom}
 use Rattle.tables.specs.Sizes.{nodeRoom}
 use Rattle.tables.specs.Majorities.{Majority}
 use Rattle.nodesets.specs.NodeSets.{has, added, count, majority}
 use Rattle.nodesets.specs.declared.NodeSet.{NodeSet}
 use Rattle.nodesets.proofs.Members.{in-room, in-added, added-fits, most-counted}
-use Rattle.answers.specs.declared.Answer.the-variants.{Done, Won}
-use Rattle.state.specs.Node.{blank, recordAt, masterAt}
+use Rattle.answers.specs.Answers.{number}
+use Rattle.answers.specs.declared.Answer.the-variants.{Done}
+use Rattle.state.specs.Node.{blank, recordAt, masterAt, roleAt, followed}
 use Rattle.state.specs.Changes.{withRecord, withRecords, withElection}
 use Rattle.state.specs.Outcomes.{Slotted}
 use Rattle.state.specs.declared.Node.{Node}
 use Rattle.state.specs.declared.Record.{Record}
 use Rattle.state.specs.declared.Election.the-variants.{Closed}
 use Rattle.soundness.specs.Sound.{sound}
-use Rattle.soundness.proofs.Facts.{voters-fit, heard-fit}
+use Rattle.soundness.proofs.Facts.{me-listed, followed-listed, voters-fit, heard-fit}
 use Rattle.soundness.proofs.Keeps.{Keeps}
-use Rattle.acks.specs.Acks.{winner, promoted, acked}
+use Rattle.wins.specs.Wins.{passes}
+use Rattle.wins.proofs.Passing.{from-old, handed-over-changed}
+use Rattle.acks.specs.Acks.{passing, winner, promoted, acked}
 use Rattle.acks.specs.Counts.{Hears, Counts, GoesOn, Wins, AckLaws}
 use Rattle.acks.proofs.Steps.{ack-cases}
 use Rattle.acks.proofs.Kept.{running-sound, ack-sound}
@@ -32,6 +36,15 @@ set-got : {A : Type 0} (l : List A) (i : ℕ) (a d : A) → set l i a ≡ set l 
 set-got [] i a d = refl
 set-got (x ∷ l) zero a d = refl
 set-got (x ∷ l) (suc i) a d = ap (λ (m : List _). x ∷ m) (set-got l i a d)
+
+-- in a sound state no slot of the old master is this node's own, so that those that pass are the entries that changed
+pub passing-changed : (n : Node) (slots : List ℕ) (epoch : ℕ) → sound n ≡ true → passing n slots epoch .count ≡ changedFrom (λ owner. true) slots (passing n slots epoch .slots)
+passing-changed n slots epoch s =
+    let role = roleAt n (n .me) in
+    let config = recordAt n (followed role) .config in
+    let own : recordAt n (n .me) .role ≡ role = rw (lt-ltb (n .me) (n .size) (me-listed n s)) in
+    handed-over-changed (passes role config epoch) (n .me) slots
+    (λ owner e. followed-listed n s (n .me) owner (me-listed n s) (own ∙ from-old role config epoch owner e .0) .1)
 
 module _ (n : Node) (slots : List ℕ) (voter candidate epoch : ℕ) where
   abbrev hearing : Slotted
@@ -56,17 +69,17 @@ module _ (n : Node) (slots : List ℕ) (voter candidate epoch : ℕ) where
       (λ o v h w m e. let z : _≡_ {A = ℕ} 0 1 = cc in absurd (omega arith))
 
   -- 30: counted, more than half, and the election is won
-  wins : hearing .outcome .answer ≡ Won → Wins n slots voter candidate epoch hearing
+  wins : number (hearing .outcome .answer) ≡ 30 → Wins n slots voter candidate epoch hearing
   wins =
-      ack-cases n slots voter candidate epoch (λ (o : Slotted). o .outcome .answer ≡ Won → Wins n slots voter candidate epoch o)
+      ack-cases n slots voter candidate epoch (λ (o : Slotted). number (o .outcome .answer) ≡ 30 → Wins n slots voter candidate epoch o)
       (λ a t e. absurd (rw e at t))
-      (λ o v h w m e. let z : _≡_ {A = ℕ} 0 1 = cc in absurd (omega arith))
-      (λ o v h w m e. record { counts = counts o v h w; most = ltb-true (count v) (2 * count (added h voter)) m; node = refl; slots-pass = refl })
+      (λ o v h w m e. absurd (omega (arith, e)))
+      (λ o v h w m e. record { counts = counts o v h w; most = ltb-true (count v) (2 * count (added h voter)) m; node = refl; slots-pass = refl; told = refl; changed = passing-changed n slots epoch })
 
   -- any other answer leaves node and table as they were
-  refused-ack : (hearing .outcome .answer ≡ Done → ⊥) → (hearing .outcome .answer ≡ Won → ⊥) → (hearing .outcome .node ≡ n) × (hearing .slots ≡ slots)
+  refused-ack : (hearing .outcome .answer ≡ Done → ⊥) → (number (hearing .outcome .answer) ≡ 30 → ⊥) → (hearing .outcome .node ≡ n) × (hearing .slots ≡ slots)
   refused-ack =
-      ack-cases n slots voter candidate epoch (λ (o : Slotted). (o .outcome .answer ≡ Done → ⊥) → (o .outcome .answer ≡ Won → ⊥) → (o .outcome .node ≡ n) × (o .slots ≡ slots))
+      ack-cases n slots voter candidate epoch (λ (o : Slotted). (o .outcome .answer ≡ Done → ⊥) → (number (o .outcome .answer) ≡ 30 → ⊥) → (o .outcome .node ≡ n) × (o .slots ≡ slots))
       (λ a t d f. (refl, refl)) (λ o v h w m d f. absurd (d refl)) (λ o v h w m d f. absurd (f refl))
 
   -- none changes more than the election and this node's own record

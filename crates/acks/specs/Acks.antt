@@ -14,7 +14,7 @@ use Rattle.state.specs.Outcomes.{answered, Slotted}
 use Rattle.state.specs.declared.Node.{Node}
 use Rattle.state.specs.declared.Election.{Election}
 use Rattle.state.specs.declared.Election.the-variants.{Closed, Open}
-pub use Rattle.wins.specs.Wins.{passed, winner, won}
+pub use Rattle.wins.specs.Wins.{passing, winner, won}
 unfoldable pub use Rattle.wins.specs.Wins.{promoted}
 
 -- 32 to 36, for an open election

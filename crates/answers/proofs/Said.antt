@@ -3,7 +3,7 @@ use mathlib.Core.Path.{_≡_, refl, sym, ap, _∙_}
 use mathlib.Core.List.{List, [], _∷_}
 use Prim.Native.Nat.{ℕ}
 use lib.ListN.{getD}
-use Rattle.answers.specs.Answers.{Values, no-values, counts, at-slot, Said, said, SaidSettles}
+use Rattle.answers.specs.Answers.{Values, no-values, counts, at-slot, passed, Said, said, SaidSettles}
 use Rattle.answers.specs.declared.Answer.{Answer}
 use Rattle.answers.specs.declared.Answer.the-variants as answer
 
@@ -40,7 +40,7 @@ plainAnswers =
     ∷ answer.Done
     ∷ answer.ElectionYoung
     ∷ answer.Done
-    ∷ answer.Won
+    ∷ answer.Done
     ∷ answer.NoElection
     ∷ answer.OtherCandidate
     ∷ answer.OtherEpoch
@@ -53,6 +53,7 @@ abbrev answerOf : Values → ℕ → Answer
 answerOf no-values k = getD plainAnswers k answer.Done
 answerOf (counts bound rebound stale) k = answer.Heard (record { bound = bound; rebound = rebound; stale = stale })
 answerOf (at-slot s) k = answer.Outdated s
+answerOf (passed count) k = answer.Won count
 
 abbrev read : Said → Answer
 read s = answerOf (s .values) (s .number)
@@ -86,7 +87,7 @@ read-said answer.NotReplica = refl
 read-said answer.OwnMasterNotFailed = refl
 read-said answer.OwnMasterEmpty = refl
 read-said answer.ElectionYoung = refl
-read-said answer.Won = refl
+read-said (answer.Won count) = refl
 read-said answer.NoElection = refl
 read-said answer.OtherCandidate = refl
 read-said answer.OtherEpoch = refl

@@ -42,11 +42,12 @@ use Rattle.answers.specs.declared.Answer.the-variants.{
 }
 
 -- beside the 0 of a heartbeat: how many slots were newly bound, how many rebound, and the lowest slot, if any, at which the
--- sender is stale; beside 17 the lowest slot that the vote is refused for
+-- sender is stale; beside 17 the lowest slot that the vote is refused for; beside 30 how many slots passed to this node
 pub data Values : Type 0 where
   no-values : Values
   counts : (bound rebound : ℕ) (stale : Found) → Values
   at-slot : ℕ → Values
+  passed : ℕ → Values
 
 pub record Said : Type 0 where
   pub number : ℕ
@@ -85,7 +86,7 @@ said NotReplica = plain 24
 said OwnMasterNotFailed = plain 25
 said OwnMasterEmpty = plain 26
 said ElectionYoung = plain 28
-said Won = plain 30
+said (Won count) = record { number = 30; values = passed count }
 said NoElection = plain 31
 said OtherCandidate = plain 32
 said OtherEpoch = plain 33

@@ -43,7 +43,8 @@ pub enum Answer {
     OwnMasterNotFailed,
     OwnMasterEmpty,
     ElectionYoung,
-    Won,
+    // An election won, and how many slots passed to this node.
+    Won(usize),
     NoElection,
     OtherCandidate,
     OtherEpoch,
@@ -91,7 +92,7 @@ pub fn number(answer: Answer) -> u8
         Answer::OwnMasterNotFailed => 25,
         Answer::OwnMasterEmpty => 26,
         Answer::ElectionYoung => 28,
-        Answer::Won => 30,
+        Answer::Won(_) => 30,
         Answer::NoElection => 31,
         Answer::OtherCandidate => 32,
         Answer::OtherEpoch => 33,

@@ -1,10 +1,11 @@
 -- Laws of what failure detection leaves as it was: nothing changed, one record changed, one change after another.
 use mathlib.Core.Path.{_≡_, refl, sym, ap, subst, _∙_}
 use mathlib.Core.Bool.{false}
-use mathlib.Core.List.{List, [], _∷_}
-use Prim.Native.Nat.{ℕ, zero, suc, _≤_, _<_}
+use mathlib.Core.List.{List}
+use Prim.Native.Nat.{ℕ, _≤_, _<_}
 use lib.ListN.{length, getD, set, length-set}
 use lib.Seq.{getD-set-same, getD-set-other}
+use Rattle.tables.proofs.Lists.{at-set}
 use Rattle.nodesets.specs.declared.NodeSet.{NodeSet}
 use Rattle.state.specs.Node.{blank, recordAt, masterAt, isPfail}
 use Rattle.state.specs.Changes.{withRecord, withRecords, withPing, withFlag, onRecord}
@@ -14,14 +15,6 @@ use Rattle.state.specs.declared.Flag.{Flag}
 use Rattle.failure.specs.Failure.{recent, signals, mostSignal, flagIfSignalled, lookedAt}
 use Rattle.failure.proofs.Records.{record-out, record-back}
 use Rattle.failure.specs.Keeps.{Only, FlagsOnly, Kept, OthersKept, EntriesKept}
-
--- what holds of an entry, and of what is written at its place, holds of it after the write
-pub at-set : {A : Type 0} (P : A → Type 0) (l : List A) (k : ℕ) (x d : A) (j : ℕ) → P (getD l j d) → (j ≡ k → P x) → P (getD (set l k x) j d)
-at-set P [] k x d j h f = h
-at-set P (a ∷ l) zero x d zero h f = f refl
-at-set P (a ∷ l) zero x d (suc j) h f = h
-at-set P (a ∷ l) (suc k) x d zero h f = h
-at-set P (a ∷ l) (suc k) x d (suc j) h f = at-set P l k x d j h (λ e. f (ap suc e))
 
 -- ---- whatever is taken from the new records
 

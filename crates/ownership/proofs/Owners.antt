@@ -8,10 +8,10 @@ use native.Mathlib.Omega.{arith}
 use lib.Dec.{eqb, ltb}
 use lib.ListN.{length, getD}
 use borrow.Author.Tests.{lt-ltb, le-ltb, ltb-true, ltb-false, eq-eqb, ne-eqb}
-use Rattle.tables.specs.Lists.{countAt}
+use Rattle.tables.specs.Lists.{countAt, changedFrom}
 use Rattle.tables.specs.Sets.{claimed}
 use Rattle.ownership.specs.Claim.{Claimant, known, fate, fateAt, entryAfter, isBound, isRebound, claim}
-use Rattle.ownership.specs.Owners.{ExactlyWhen, isOwner, isUnowned, changedFrom, ClaimLaws}
+use Rattle.ownership.specs.Owners.{ExactlyWhen, isOwner, isUnowned, ClaimLaws}
 use Rattle.ownership.specs.declared.Fate.{Fate}
 use Rattle.ownership.specs.declared.Fate.the-variants.{Bound, Rebound, Stale, Stays}
 use Rattle.tables.proofs.Walks.{length-mapped, mapped-at, counts-agree}

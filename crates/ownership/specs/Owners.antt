@@ -1,12 +1,11 @@
 -- What a claim makes of the slot table, slot by slot and in numbers.
 use mathlib.Core.Path.{_≡_}
 use mathlib.Core.Bool.{Bool, true, false, not}
-use mathlib.Core.List.{List, [], _∷_}
+use mathlib.Core.List.{List}
 use Prim.Native.Nat.{ℕ, _≤_, _<_}
-use lib.Dec.{eqb, ltb}
+use lib.Dec.{ltb}
 use lib.ListN.{length, getD}
-use Rattle.tables.specs.Checks.{allOf}
-use Rattle.tables.specs.Lists.{countAt}
+use Rattle.tables.specs.Lists.{changedFrom}
 use Rattle.tables.specs.Sets.{claimed}
 use Rattle.ownership.specs.Claim.{Claimant, known, claim}
 
@@ -22,10 +21,6 @@ isOwner c o = ltb o (c .size)
 
 abbrev pub isUnowned : Claimant → ℕ → Bool
 isUnowned c o = not (isOwner c o)
-
--- of the entries that were such, how many changed: the table before is held against the table after
-abbrev pub changedFrom : (ℕ → Bool) → List ℕ → List ℕ → ℕ
-changedFrom such before after = countAt (λ s o. allOf (such o ∷ not (eqb o (getD after s 0)) ∷ [])) before
 
 module _ (c : Claimant) (bitmap slots : List ℕ) where
   abbrev owner : ℕ → ℕ

@@ -183,10 +183,10 @@ module _ (n : Node) (slots reports bitmap : List ℕ) (h : Header) where
       (λ opened voters heard w q. record {
         refused = λ d e. absurd (d refl);
         counted = λ e. record { opened = opened; voters = voters; heard = heard; running = w .running; node = refl; slots-kept = refl };
-        won = λ e. let z : _≡_ {A = ℕ} 0 1 = cc in absurd (omega arith);
+        won = λ e. absurd (omega (arith, e));
         reports-kept = refl;
       })
-      (λ opened voters heard w q. record { refused = λ d e. absurd (e refl); counted = λ e. let z : _≡_ {A = ℕ} 0 1 = cc in absurd (omega arith); won = λ e. (refl, refl); reports-kept = refl })
+      (λ opened voters heard w q. record { refused = λ d e. absurd (e refl); counted = λ e. let z : _≡_ {A = ℕ} 0 1 = cc in absurd (omega arith); won = λ e. record { node = refl; slots-pass = refl; told = refl }; reports-kept = refl })
 
   -- the kinds without an epoch are said with the clock moved, the others with currentEpoch risen too
   kind-changes : (k : Kind) → Passed k → RestFits (layoutOf k) h bitmap → Changes k (arrived (h .time) (h .epoch) n)

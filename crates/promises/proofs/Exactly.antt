@@ -1,23 +1,24 @@
--- A line is answered 10 exactly when it is a request whose conditions hold, a slot passes exactly when the frame beats its owner, and a heartbeat's answer counts what changed.
+-- A line is answered 10 exactly when it is a request whose conditions hold, a slot passes exactly when the frame beats its
+-- owner or a win takes it, and the answers of a heartbeat and of a win count what changed.
 use mathlib.Core.Path.{_≡_, refl, sym, ap, subst, _∙_}
-use mathlib.Core.Bool.{Bool, true, false, not}
+use mathlib.Core.Bool.{Bool, true, false, not, cond}
 use mathlib.Core.List.{List, [], _∷_}
 use Prim.Native.Nat.{ℕ, _≤_, _<_}
 use native.Mathlib.Nat.{zero-add}
 use native.Mathlib.Omega.{arith}
 use lib.Dec.{eqb, leb}
 use lib.ListN.{length, getD}
-use borrow.Author.Tests.{eqb-true, eq-eqb, leb-true}
+use borrow.Author.Tests.{eqb-true, eq-eqb, leb-true, lt-ltb}
 use Rattle.tables.specs.Sizes.{slotCount, reportCount}
 use Rattle.tables.specs.Checks.{checked, allOf}
-use Rattle.tables.specs.Lists.{firstAt}
+use Rattle.tables.specs.Lists.{firstAt, changedFrom}
 use Rattle.tables.proofs.Checks.{part}
-use Rattle.tables.proofs.Walks.{counts-agree, count-none, first-none}
-use Rattle.answers.specs.Answers.{counts, said, number}
+use Rattle.tables.proofs.Walks.{mapped-at, counts-agree, count-none, first-none}
+use Rattle.answers.specs.Answers.{counts, passed, said, number}
 use Rattle.answers.specs.declared.Answer.{Answer}
-use Rattle.answers.specs.declared.Answer.the-variants.{Granted}
+use Rattle.answers.specs.declared.Answer.the-variants.{Granted, Won}
 use Rattle.answers.proofs.Checks.{by-check, past, testFor}
-use Rattle.state.specs.Node.{listed}
+use Rattle.state.specs.Node.{recordAt, roleAt, followed, listed}
 use Rattle.state.specs.Changes.{withRecords, withClock, withCurrent, arrived}
 use Rattle.state.specs.Outcomes.{Slotted, Stepped}
 use Rattle.state.specs.declared.Node.{Node}
@@ -31,23 +32,27 @@ use Rattle.frames.specs.declared.Kind.the-variants.{Heartbeat, Report, Fail, Re
 use Rattle.frames.specs.declared.Frame.{Frame}
 use Rattle.frames.specs.declared.Decoded.{Decoded}
 use Rattle.frames.specs.declared.Decoded.the-variants.{NotAFrame, Good}
-use Rattle.refusals.specs.Refusals.{refusals, turnsAway}
+use Rattle.refusals.specs.Refusals.{bothLong, refusals, turnsAway}
 use Rattle.refusals.proofs.Admitted.{Admitted, admitted, passes, all-turn-away}
 use Rattle.records.specs.Known.{knownConfigs}
 use Rattle.ownership.specs.Claim.{claimant}
-use Rattle.ownership.specs.Owners.{changedFrom}
 use Rattle.ownership.proofs.Owners.{unowned-goes, unclaimed-stays, claim-laws}
 use Rattle.heartbeats.specs.Heartbeats.{withSender, heartbeat}
 use Rattle.heartbeats.proofs.Frame.{slot-passes-exactly-when}
 use Rattle.votes.specs.Votes.{requested}
 use Rattle.votes.proofs.Steps.{request-cases}
 use Rattle.votes.proofs.Exactly.{granted-exactly}
+use Rattle.wins.specs.Wins as wins
+use Rattle.wins.specs.Wins.{handedOver}
+use Rattle.wins.proofs.Passing.{from-old}
 use Rattle.acks.specs.Acks.{acked}
+use Rattle.acks.specs.Counts.{Wins}
 use Rattle.acks.proofs.Steps.{ack-cases}
-use Rattle.kinds.specs.Kinds.{slottedStep, onKind}
-use Rattle.node.specs.Step.{turnedAway, takenIn, onFrame}
+use Rattle.acks.proofs.Laws.{passing-changed, ack-laws}
+use Rattle.kinds.specs.Kinds.{onKind}
+use Rattle.node.specs.Step.{turnedAway, taken, takenIn, onFrame}
 use Rattle.promises.specs.Claims.{staleAt}
-use Rattle.promises.specs.Exactly.{answerTo, Reads, GrantableLine, GrantedExactly, SlotPassesExactly, UnownedGoesExactly, HeartbeatSays}
+use Rattle.promises.specs.Exactly.{saidTo, answerTo, Reads, GrantableLine, GrantedExactly, SlotPassesExactly, UnownedGoesExactly, HeartbeatSays, Yields, SlotWon, SlotWonExactly, WinSays}
 use Rattle.promises.proofs.Sounds.{sender-listed}
 use Rattle.promises.proofs.Claims.{claimantOf, stale-lowest}
 
@@ -123,49 +128,52 @@ module _ (n : Node) (slots reports line : List ℕ) where
   pub granted-exactly-on-lines : GrantedExactly n slots reports line
   granted-exactly-on-lines = record { if = granted; only-if = ten }
 
--- ---- a slot
+-- ---- a line that is not turned away
 
--- a heartbeat that is answered 0 was not turned away: the slot table is whole, the sender listed, and it was done
-module _ (n : Node) (slots reports bitmap : List ℕ) (h : Header) (sender : ℕ) (role : Role) where
-  abbrev frame : Frame
-  frame = record { header = h; kind = Heartbeat sender role }
-
+-- its frame is admitted, and done
+module _ (n : Node) (slots reports bitmap : List ℕ) (f : Frame) where
   abbrev stepped : Decoded → Stepped
   stepped d = checked (turnedAway n slots reports) (refusals n (length slots) (length reports) d) (takenIn n slots reports bitmap d)
 
   pub record Taken (x : Stepped) : Type 0 where
-    pub whole : length slots ≡ slotCount
-    pub listed : sender < n .size
-    pub step : x ≡ slottedStep reports (heartbeat (arrived (h .time) (h .epoch) n) slots bitmap sender role (h .config))
+    pub goes-in : Admitted n (length slots) (length reports) f
+    pub step : x ≡ taken n slots reports bitmap f
 
-  admitted-taken : Admitted n (length slots) (length reports) frame → Taken (takenIn n slots reports bitmap (Good frame))
-  unfolding onKind
-  admitted-taken a = record {
-    whole = eqb-true (length slots) slotCount (part 0 (eqb (length slots) slotCount ∷ eqb (length reports) reportCount ∷ []) (a .lengths));
-    listed = sender-listed (n .size) sender role (a .all-listed);
-    step = refl;
-  }
+  good-taken : (turnsAway (stepped (Good f) .outcome .answer) ≡ true → ⊥) → Taken (stepped (Good f))
+  good-taken =
+      past (λ (x : Stepped). (turnsAway (x .outcome .answer) ≡ true → ⊥) → Taken x) turnsAway (turnedAway n slots reports) (refusals n (length slots) (length reports) (Good f)) (takenIn n slots reports bitmap (Good f))
+      (all-turn-away n (length slots) (length reports) (Good f)) (λ a q e. absurd (e q))
+      (λ p e. record { goes-in = admitted n (length slots) (length reports) f p; step = refl })
 
-  zero-taken : number (stepped (Good frame) .outcome .answer) ≡ 0 → Taken (stepped (Good frame))
-  zero-taken =
-      past (λ (x : Stepped). number (x .outcome .answer) ≡ 0 → Taken x) turnsAway (turnedAway n slots reports) (refusals n (length slots) (length reports) (Good frame)) (takenIn n slots reports bitmap (Good frame))
-      (all-turn-away n (length slots) (length reports) (Good frame)) (λ a q e. absurd (omega (arith, e, from-one a q)))
-      (λ p e. admitted-taken (admitted n (length slots) (length reports) frame p))
+whole : (slots reports : ℕ) → bothLong slots reports ≡ true → slots ≡ slotCount
+whole slots reports h = eqb-true slots slotCount (part 0 (eqb slots slotCount ∷ eqb reports reportCount ∷ []) h)
 
--- the same of the line
-line-taken : (n : Node) (slots reports line : List ℕ) (h : Header) (sender : ℕ) (role : Role) → Reads n slots reports line h (Heartbeat sender role) → answerTo n slots reports line ≡ 0
-    → Taken n slots reports (bitmapOf line) h sender role (onFrame n slots reports line)
-unfolding onFrame
-line-taken n slots reports line h sender role q a =
-    let on : onFrame n slots reports line ≡ stepped n slots reports (bitmapOf line) h sender role (Good (frame n slots reports (bitmapOf line) h sender role)) = ap (stepped n slots reports (bitmapOf line) h sender role) q in
-    subst (Taken n slots reports (bitmapOf line) h sender role) (sym on) (zero-taken n slots reports (bitmapOf line) h sender role (ap (λ (x : Stepped). number (x .outcome .answer)) (sym on) ∙ a))
+module _ (n : Node) (slots reports line : List ℕ) (h : Header) (k : Kind) (q : Reads n slots reports line h k) where
+  abbrev LineTaken : Type 0
+  LineTaken = Taken n slots reports (bitmapOf line) (record { header = h; kind = k }) (onFrame n slots reports line)
+
+  line-taken : (turnsAway (onFrame n slots reports line .outcome .answer) ≡ true → ⊥) → LineTaken
+  unfolding onFrame
+  line-taken a =
+      let f : Frame = record { header = h; kind = k } in
+      let on : onFrame n slots reports line ≡ stepped n slots reports (bitmapOf line) f (Good f) = ap (stepped n slots reports (bitmapOf line) f) q in
+      subst (Taken n slots reports (bitmapOf line) f) (sym on) (good-taken n slots reports (bitmapOf line) f (λ e. a (ap (λ (x : Stepped). turnsAway (x .outcome .answer)) on ∙ e)))
+
+  zero-taken : answerTo n slots reports line ≡ 0 → LineTaken
+  zero-taken a = line-taken (λ e. omega (arith, a, from-one (onFrame n slots reports line .outcome .answer) e))
+
+  won-taken : answerTo n slots reports line ≡ 30 → LineTaken
+  won-taken a = line-taken (λ e. omega (arith, a, to-eight (onFrame n slots reports line .outcome .answer) e))
+
+-- ---- a slot that is claimed
 
 module _ (n : Node) (slots reports line : List ℕ) where
   pub slot-passes-exactly-on-lines : SlotPassesExactly n slots reports line
-  unfolding withClock withCurrent
+  unfolding onKind withClock withCurrent
   slot-passes-exactly-on-lines h sender q a s l o d =
-      let z = line-taken n slots reports line h sender Master q a in
-      let g = slot-passes-exactly-when (arrived (h .time) (h .epoch) n) slots (bitmapOf line) sender (h .config) s (omega (arith, z .whole, l)) o d in
+      let z = zero-taken n slots reports line h (Heartbeat sender Master) q a in
+      let w = whole (length slots) (length reports) (z .goes-in .lengths) in
+      let g = slot-passes-exactly-when (arrived (h .time) (h .epoch) n) slots (bitmapOf line) sender (h .config) s (omega (arith, w, l)) o d in
       let e = ap (λ (x : Stepped). getD (x .slots) s 0) (z .step) in
       record {
         if = λ b. e ∙ g .if (b .claims, b .above);
@@ -174,12 +182,12 @@ module _ (n : Node) (slots reports line : List ℕ) where
       }
 
   pub unowned-goes-exactly-on-lines : UnownedGoesExactly n slots reports line
-  unfolding heartbeat withSender withRecords withClock withCurrent
+  unfolding onKind heartbeat withSender withRecords withClock withCurrent
   unowned-goes-exactly-on-lines h sender q a s l o =
-      let z = line-taken n slots reports line h sender Master q a in
+      let z = zero-taken n slots reports line h (Heartbeat sender Master) q a in
       let m = withSender sender Master (h .config) (arrived (h .time) (h .epoch) n) in
       let c = claimant (knownConfigs (m .size) (m .records)) (m .size) sender (h .config) in
-      let w : s < length slots = omega (arith, z .whole, l) in
+      let w : s < length slots = omega (arith, whole (length slots) (length reports) (z .goes-in .lengths), l) in
       let e = ap (λ (x : Stepped). getD (x .slots) s 0) (z .step) in
       record { if = λ b. e ∙ unowned-goes c (bitmapOf line) slots s w o b; otherwise = λ b. e ∙ unclaimed-stays c (bitmapOf line) slots s w b }
 
@@ -218,8 +226,69 @@ says n slots bitmap sender (Replica m) config l =
     λ i. record { number = 0; values = counts (b i) (r i) (s i) }
 
 pub heartbeat-says : (n : Node) (slots reports line : List ℕ) → HeartbeatSays n slots reports line
-unfolding withClock withCurrent
+unfolding onKind withClock withCurrent
 heartbeat-says n slots reports line h sender role q a =
-    let z = line-taken n slots reports line h sender role q a in
+    let z = zero-taken n slots reports line h (Heartbeat sender role) q a in
     let m = arrived (h .time) (h .epoch) n in
-    subst (λ (x : Stepped). Counted n slots (bitmapOf line) sender role (h .config) (record { outcome = x .outcome; slots = x .slots })) (sym (z .step)) (says m slots (bitmapOf line) sender role (h .config) (z .listed))
+    subst (λ (x : Stepped). Counted n slots (bitmapOf line) sender role (h .config) (record { outcome = x .outcome; slots = x .slots })) (sym (z .step)) (says m slots (bitmapOf line) sender role (h .config) (sender-listed (n .size) sender role (z .goes-in .all-listed)))
+
+-- ---- a slot that is won
+
+module _ (n : Node) (slots reports line : List ℕ) (h : Header) (voter candidate : ℕ) (q : Reads n slots reports line h (Ack voter candidate)) (a : answerTo n slots reports line ≡ 30) where
+  abbrev role : Role
+  role = roleAt n (n .me)
+
+  -- does a slot pass, by its owner
+  abbrev goes : ℕ → Bool
+  goes owner = wins.passes role (recordAt n (followed role) .config) (h .epoch) owner
+
+  done : LineTaken n slots reports line h (Ack voter candidate) q
+  done = won-taken n slots reports line h (Ack voter candidate) q a
+
+  win : Wins (arrived (h .time) (h .epoch) n) slots voter candidate (h .epoch) (acked (arrived (h .time) (h .epoch) n) slots voter candidate (h .epoch))
+  unfolding onKind
+  win = ack-laws (arrived (h .time) (h .epoch) n) slots voter candidate (h .epoch) .wins (ap (λ (x : Stepped). number (x .outcome .answer)) (sym (done .step)) ∙ a)
+
+  table : onFrame n slots reports line .slots ≡ handedOver goes (n .me) slots .slots
+  unfolding onKind withClock withCurrent
+  table = ap (λ (x : Stepped). x .slots) (done .step) ∙ win .slots-pass
+
+  yields : (s : ℕ) → goes (getD slots s 0) ≡ true → Yields n slots reports line (h .epoch) s
+  yields s e =
+      let p = from-old role (recordAt n (followed role) .config) (h .epoch) (getD slots s 0) e in
+      record { old-master = p .0; below = subst (λ (r : Role). recordAt n (followed r) .config < h .epoch) (p .0) (p .1) }
+
+  goes-if : (s : ℕ) → Yields n slots reports line (h .epoch) s → goes (getD slots s 0) ≡ true
+  goes-if s y =
+      ap (λ (r : Role). wins.passes r (recordAt n (followed r) .config) (h .epoch) (getD slots s 0)) (y .old-master)
+      ∙ rw (lt-ltb (recordAt n (getD slots s 0) .config) (h .epoch) (y .below)) (eq-eqb (getD slots s 0) (getD slots s 0) refl)
+
+  slot-won : (s : ℕ) → s < slotCount → (getD slots s 0 ≡ n .me → ⊥) → SlotWon n slots reports line (h .epoch) s
+  slot-won s l d = record {
+    if = λ y. entry ∙ rw (goes-if s y);
+    only-if = λ e. by (goes (getD slots s 0)) refl (λ g. yields s g) (λ g. absurd (d (sym (entry ∙ rw g) ∙ e)));
+    otherwise = λ f. entry ∙ by (goes (getD slots s 0)) refl (λ g. absurd (f (yields s g))) (λ g. rw g);
+  }
+    where
+      w : length slots ≡ slotCount
+      w = whole (length slots) (length reports) (done .goes-in .lengths)
+
+      entry : getD (onFrame n slots reports line .slots) s 0 ≡ cond (goes (getD slots s 0)) (n .me) (getD slots s 0)
+      entry = ap (λ (x : List ℕ). getD x s 0) table ∙ mapped-at (λ s owner. cond (goes owner) (n .me) owner) 0 slots s 0 0 (omega (arith, w, l))
+
+      by : {A : Type 0} (b : Bool) → goes (getD slots s 0) ≡ b → (goes (getD slots s 0) ≡ true → A) → (goes (getD slots s 0) ≡ false → A) → A
+      by true e f g = f e
+      by false e f g = g e
+
+  said-so : saidTo n slots reports line ≡ record { number = 30; values = passed (changedFrom (λ owner. true) slots (onFrame n slots reports line .slots)) }
+  unfolding onKind withClock withCurrent
+  said-so =
+      ap said (ap (λ (x : Stepped). x .outcome .answer) (done .step) ∙ win .told)
+      ∙ ap (λ (k : ℕ). said (Won k)) (passing-changed n slots (h .epoch) (done .goes-in .node-sound))
+      ∙ ap (λ (x : List ℕ). said (Won (changedFrom (λ owner. true) slots x))) (sym table)
+
+pub slot-won-exactly-on-lines : (n : Node) (slots reports line : List ℕ) → SlotWonExactly n slots reports line
+slot-won-exactly-on-lines n slots reports line h voter candidate q a s l d = slot-won n slots reports line h voter candidate q a s l d
+
+pub win-says : (n : Node) (slots reports line : List ℕ) → WinSays n slots reports line
+win-says n slots reports line h voter candidate q a = said-so n slots reports line h voter candidate q a

@@ -8,7 +8,9 @@ use lib.ListN.{length, set}
 use Rattle.tables.specs.Checks.{allOf}
 use Rattle.nodesets.specs.NodeSets.{added}
 use Rattle.nodesets.specs.declared.NodeSet.{NodeSet}
-use Rattle.answers.specs.declared.Answer.the-variants.{Done, Granted, Won}
+use Rattle.answers.specs.Answers.{number}
+use Rattle.answers.specs.declared.Answer.the-variants.{Done, Granted}
+use Rattle.answers.specs.declared.Answer.the-variants as answer
 use Rattle.state.specs.Node.{recordAt, masters, roleAt, followed}
 use Rattle.state.specs.Changes.{withConfig, withPing, withFlag, withRecords, withCurrent, withClock, withElection, onRecord, arrived}
 use Rattle.state.specs.Outcomes.{Stepped}
@@ -35,7 +37,7 @@ use Rattle.reports.specs.Reports.{failFlag}
 use Rattle.heartbeats.specs.Heartbeats.{heardOf, withSender, tied}
 use Rattle.votes.specs.Votes as votes
 use Rattle.openings.specs.Openings.{opens, opening}
-use Rattle.acks.specs.Acks.{promoted, passed}
+use Rattle.acks.specs.Acks.{promoted, passing}
 use Rattle.marks.specs.Marks.{ButMarks}
 use Rattle.marks.specs.MarkChanges.{setMark, clearMark, marking, unmarking}
 use Rattle.node.specs.Step.{onFrame}
@@ -135,12 +137,19 @@ module _ (n : Node) (slots reports : List ℕ) (s : Stepped) (h : Header) where
     pub node : after ≡ withElection (Open (h .epoch) opened voters (added heard voter)) arrival
     pub slots-kept : s .slots ≡ slots
 
-  -- ack: 0 changes the election alone; 30 makes this node a master with that epoch, closes the election and passes the
-  -- old master's slots; 31 to 36 nothing more
+  -- the election is won: this node is a master with the ack's epoch, and the election is closed, whether slots pass or not; the
+  -- answer tells how many did
+  pub record Won : Type 0 where
+    pub node : after ≡ promoted (h .epoch) arrival
+    pub slots-pass : s .slots ≡ passing arrival slots (h .epoch) .slots
+    pub told : s .outcome .answer ≡ answer.Won (passing arrival slots (h .epoch) .count)
+
+  -- ack: 0 changes the election alone; 30 the election, this node's role and configEpoch, and slots of its old master; 31 to
+  -- 36 nothing more
   pub record AckChanges (voter : ℕ) : Type 0 where
-    pub refused : (s .outcome .answer ≡ Done → ⊥) → (s .outcome .answer ≡ Won → ⊥) → (after ≡ arrival) × (s .slots ≡ slots)
+    pub refused : (s .outcome .answer ≡ Done → ⊥) → (number (s .outcome .answer) ≡ 30 → ⊥) → (after ≡ arrival) × (s .slots ≡ slots)
     pub counted : s .outcome .answer ≡ Done → Counted voter
-    pub won : s .outcome .answer ≡ Won → (after ≡ promoted (h .epoch) arrival) × (s .slots ≡ passed (roleAt arrival (n .me)) (n .me) slots)
+    pub won : number (s .outcome .answer) ≡ 30 → Won
     pub reports-kept : s .reports ≡ reports
 
   abbrev pub KindChanges : List ℕ → Kind → Type 0

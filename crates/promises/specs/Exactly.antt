@@ -1,26 +1,25 @@
--- Demand 2 on lines: when a line is answered 10, when a slot passes, and what a heartbeat's answer says of the slots.
+-- Demand 2 on lines: when a line is answered 10, when a slot passes by a claim or by a win, and what the answers say of it.
 use mathlib.Core.Path.{_≡_}
 use mathlib.Core.Bool.{true, false, not}
 use mathlib.Core.List.{List}
 use Prim.Native.Nat.{ℕ, _≤_, _<_}
 use lib.ListN.{length, getD}
 use Rattle.tables.specs.Sizes.{slotCount}
-use Rattle.tables.specs.Lists.{firstAt}
+use Rattle.tables.specs.Lists.{firstAt, changedFrom}
 use Rattle.tables.specs.Sets.{claimed}
-use Rattle.answers.specs.Answers.{counts, Said, said, number}
+use Rattle.answers.specs.Answers.{counts, passed, Said, said, number}
 use Rattle.answers.specs.declared.Check.the-variants.{Passed}
-use Rattle.state.specs.Node.{recordAt, listed}
+use Rattle.state.specs.Node.{recordAt, roleAt, listed}
 use Rattle.state.specs.Changes.{arrived}
 use Rattle.state.specs.declared.Node.{Node}
 use Rattle.state.specs.declared.Role.{Role}
-use Rattle.state.specs.declared.Role.the-variants.{Master}
+use Rattle.state.specs.declared.Role.the-variants.{Master, Replica}
 use Rattle.frames.specs.Frames.{frameOf, bitmapOf}
 use Rattle.frames.specs.declared.Header.{Header}
 use Rattle.frames.specs.declared.Kind.{Kind}
-use Rattle.frames.specs.declared.Kind.the-variants.{Heartbeat, Request}
+use Rattle.frames.specs.declared.Kind.the-variants.{Heartbeat, Request, Ack}
 use Rattle.frames.specs.declared.Decoded.the-variants.{Good}
 use Rattle.refusals.specs.Refusals.{refusal}
-use Rattle.ownership.specs.Owners.{changedFrom}
 use Rattle.votes.specs.Grants.{Grantable}
 use Rattle.node.specs.Step.{onFrame}
 use Rattle.promises.specs.Claims.{staleAt}
@@ -88,3 +87,26 @@ module _ (n : Node) (slots reports line : List ℕ) where
         number = 0;
         values = counts (changedFrom (λ o. not (listed n o)) slots after) (changedFrom (listed n) slots after) (firstAt (staleAt n (bitmapOf line) sender role (h .config)) slots);
       }
+
+  -- the owner of slot s is this node's old master, and its known configEpoch is below that epoch
+  pub record Yields (epoch s : ℕ) : Type 0 where
+    pub old-master : roleAt n (n .me) ≡ Replica (getD slots s 0)
+    pub below : recordAt n (getD slots s 0) .config < epoch
+
+  -- slot s, which is not this node's own, is so afterwards exactly when its owner yields it, and stays as it was otherwise
+  pub record SlotWon (epoch s : ℕ) : Type 0 where
+    pub if : Yields epoch s → getD (onFrame n slots reports line .slots) s 0 ≡ n .me
+    pub only-if : getD (onFrame n slots reports line .slots) s 0 ≡ n .me → Yields epoch s
+    pub otherwise : (Yields epoch s → ⊥) → getD (onFrame n slots reports line .slots) s 0 ≡ getD slots s 0
+
+  -- for an ack that wins the election of its epoch
+  abbrev pub SlotWonExactly : Type 0
+  SlotWonExactly =
+      (h : Header) (voter candidate : ℕ) → Reads h (Ack voter candidate) → answerTo ≡ 30
+      → (s : ℕ) → s < slotCount → (getD slots s 0 ≡ n .me → ⊥) → SlotWon (h .epoch) s
+
+  -- Its answer says how many entries changed, all of them to this node.
+  abbrev pub WinSays : Type 0
+  WinSays =
+      (h : Header) (voter candidate : ℕ) → Reads h (Ack voter candidate) → answerTo ≡ 30
+      → saidTo ≡ record { number = 30; values = passed (changedFrom (λ owner. true) slots (onFrame n slots reports line .slots)) }

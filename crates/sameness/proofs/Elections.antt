@@ -1,6 +1,6 @@
 -- Vote requests, openings and acks on two nodes that are alike. Whoever is followed is looked up in the roster, where a sound
 -- state has them.
-use mathlib.Core.Path.{_≡_, refl, ap, subst, subst₂, fun-ext}
+use mathlib.Core.Path.{_≡_, refl, ap, subst, subst₂, fun-ext, _∙_}
 use mathlib.Core.Bool.{Bool, true, false, cond}
 use mathlib.Core.List.{List}
 use Prim.Native.Nat.{ℕ, _+_, _<_}
@@ -12,7 +12,7 @@ use Rattle.tables.specs.declared.Found.{Found}
 use Rattle.tables.specs.declared.Found.the-variants.{Nothing, At as Slot}
 use Rattle.nodesets.specs.NodeSets.{none, added, majority}
 use Rattle.nodesets.specs.declared.NodeSet.{NodeSet}
-use Rattle.answers.specs.declared.Answer.the-variants.{Done, Granted, Outdated, NoElection}
+use Rattle.answers.specs.declared.Answer.the-variants.{Done, Granted, Outdated, Won, NoElection}
 use Rattle.state.specs.Node.{recordAt, roleAt, followed}
 use Rattle.state.specs.Changes.{withVote, withVoted, withCurrent, withElection, onRecord}
 use Rattle.state.specs.Outcomes.{answered, Slotted}
@@ -27,7 +27,8 @@ use Rattle.state.specs.declared.Election.the-variants.{Closed, Open}
 use Rattle.state.specs.declared.Outcome.{Outcome}
 use Rattle.votes.specs.Votes.{followsMaster, lately, requestChecks, newer, granted, byOwners, requested}
 use Rattle.openings.specs.Openings.{young, openChecks, opening, standing}
-use Rattle.acks.specs.Acks.{ackChecks, passed, winner, promoted, won, counted, heardIn, acked}
+use Rattle.wins.specs.Wins.{passes, Passing, handedOver}
+use Rattle.acks.specs.Acks.{ackChecks, passing, winner, promoted, won, counted, heardIn, acked}
 use Rattle.kinds.specs.Kinds.{keeping, slottedStep}
 use Rattle.sameness.proofs.Seen.{seen, Alike, bare, Reads, record-read, listed-read, master-read, role-read, masters-read, on, Changes, both-change, record-change, reads-alike, reads-where, changes-alike}
 use Rattle.sameness.proofs.Told.{Told, answered-told, checked-told}
@@ -116,7 +117,22 @@ win-change : (epoch : ℕ) → Changes (promoted epoch)
 unfolding promoted withElection
 win-change epoch n = both-change (onRecord (n .me) (winner epoch)) (withElection Closed) (record-change (n .me) (λ m. winner epoch) (λ m. refl)) (λ m. refl) n
 
-module _ (a b : Node) (e : Alike a b) (slots reports : List ℕ) where
+-- what passes by a role, where whoever is followed is listed
+abbrev passingBy : List ℕ → ℕ → Role → Node → Passing
+passingBy slots epoch role n = handedOver (passes role (recordAt n (followed role) .config) epoch) (n .me) slots
+
+passing-read : (slots : List ℕ) (epoch : ℕ) (role : Role) (n : Node) → followed role < n .size → passingBy slots epoch role (bare (held n)) ≡ passingBy slots epoch role n
+passing-read slots epoch role n h = rw (record-read (followed role) n h)
+
+module _ (a b : Node) (e : Alike a b) (listed : (k : ℕ) → followed (roleAt a k) < a .size) (slots reports : List ℕ) where
+  passing-alike : (epoch : ℕ) → passing a slots epoch ≡ passing b slots epoch
+  passing-alike epoch =
+      reads-where a b e (λ s. followed (role a) < s .size) (listed (a .me)) (passingBy slots epoch (role a)) (passing-read slots epoch (role a))
+      ∙ ap (λ (r : Role). passingBy slots epoch r b) (reads-alike a b e role (λ n. role-read (n .me) n))
+    where
+      role : Node → Role
+      role n = roleAt n (n .me)
+
   counted-told : (epoch opened : ℕ) (voters heard : NodeSet) → Told (slottedStep reports (counted a slots epoch opened voters heard)) (slottedStep reports (counted b slots epoch opened voters heard))
   unfolding withElection
   counted-told epoch opened voters heard = by (majority voters heard)
@@ -126,9 +142,9 @@ module _ (a b : Node) (e : Alike a b) (slots reports : List ℕ) where
 
       by : (t : Bool) → Told (slottedStep reports (cond t (won a slots epoch) (more a))) (slottedStep reports (cond t (won b slots epoch) (more b)))
       by true = record {
-        answer = refl;
+        answer = ap (λ (p : Passing). Won (p .count)) (passing-alike epoch);
         node = changes-alike a b e (promoted epoch) (win-change epoch);
-        slots = reads-alike a b e (λ n. passed (roleAt n (n .me)) (n .me) slots) (λ n. ap (λ (r : Role). passed r (n .me) slots) (role-read (n .me) n));
+        slots = ap (λ (p : Passing). p .slots) (passing-alike epoch);
         reports = refl;
       }
       by false = answered-told _ _ (changes-alike a b e (withElection (Open epoch opened voters heard)) (λ n. refl)) slots reports Done

@@ -1,12 +1,20 @@
--- Laws of tables: a list that a loop writes from the front, entry by entry.
-use mathlib.Core.Path.{_≡_, refl, _∙_}
-use mathlib.Core.List.{List, _++_, append-nil}
-use Prim.Native.Nat.{ℕ, suc, _+_, _≤_, _<_}
+-- Laws of tables: one entry written, and a list that a loop writes from the front, entry by entry.
+use mathlib.Core.Path.{_≡_, refl, ap, _∙_}
+use mathlib.Core.List.{List, [], _∷_, _++_, append-nil}
+use Prim.Native.Nat.{ℕ, zero, suc, _+_, _≤_, _<_}
 use native.Mathlib.Numerals.{add-one}
 use native.Mathlib.Omega.{arith}
 use lib.ListN.{length, take, drop, getD, set, replicate, length-set, drop-of-length-le}
 use borrow.Author.Fill.{fill-none, fill-more}
 use lib.Seq.{drop-cons, set-at, take-suc, append-snoc, length-take-le}
+
+-- what holds of an entry, and of what is written at its place, holds of it after the write
+pub at-set : {A : Type 0} (P : A → Type 0) (l : List A) (k : ℕ) (x d : A) (j : ℕ) → P (getD l j d) → (j ≡ k → P x) → P (getD (set l k x) j d)
+at-set P [] k x d j h f = h
+at-set P (a ∷ l) zero x d zero h f = f refl
+at-set P (a ∷ l) zero x d (suc j) h f = h
+at-set P (a ∷ l) (suc k) x d zero h f = h
+at-set P (a ∷ l) (suc k) x d (suc j) h f = at-set P l k x d j h (λ e. f (ap suc e))
 
 -- the first i entries are a's, the others b's: one more of a's
 pub store : {A : Type 0} (a b : List A) (i : ℕ) (d : A) → i < length a → i < length b → set (take i a ++ drop i b) i (getD a i d) ≡ take (i + 1) a ++ drop (i + 1) b

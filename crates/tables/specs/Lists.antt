@@ -1,8 +1,10 @@
 -- A table as a list, its entries by their places, counted from 0.
 use Prim.Native.Nat.{ℕ, suc}
-use mathlib.Core.Bool.{Bool, true, false, cond}
+use mathlib.Core.Bool.{Bool, true, false, not, cond}
 use mathlib.Core.List.{List, [], _∷_}
 use lib.Dec.{eqb}
+use lib.ListN.{getD}
+use Rattle.tables.specs.Checks.{allOf}
 use Rattle.tables.specs.declared.Found.{Found}
 use Rattle.tables.specs.declared.Found.the-variants.{Nothing, At}
 
@@ -30,6 +32,10 @@ countAt p xs = countFrom p 0 xs
 -- the lowest place that passes
 abbrev pub firstAt : {A : Type 0} → (ℕ → A → Bool) → List A → Found
 firstAt p xs = firstFrom p 0 xs
+
+-- of the entries that were such, how many changed: the table before is held against the table after
+abbrev pub changedFrom : (ℕ → Bool) → List ℕ → List ℕ → ℕ
+changedFrom such before after = countAt (λ s o. allOf (such o ∷ not (eqb o (getD after s 0)) ∷ [])) before
 
 -- where a byte first stands
 abbrev pub firstByte : ℕ → List ℕ → Found

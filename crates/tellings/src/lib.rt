@@ -389,7 +389,7 @@ fn put_news(
     match answer {
         Answer::Heard(tally) => put_tally(out, at, named, tally),
         Answer::Granted => put(out, at, text(GRANTED, voted, named)),
-        Answer::Won => put(out, at, text(WON, config, passed)),
+        Answer::Won(_) => put(out, at, text(WON, config, passed)),
         _ => at,
     }
 }

@@ -1,9 +1,9 @@
-// An election won: document 01, "Election", answer 30.
+// An election won: document 01, "Election", answer 30, with document 02, [14].
 ghost use mathlib.Core.Path.{_≡_};
 ghost use mathlib.Core.Bool.{cond};
-ghost use lib.Dec.{ltb};
-ghost use Rattle.state.specs.declared.Role.the-variants.{Master, Replica};
-ghost use Rattle.wins.specs.Wins.{passed, won};
+ghost use lib.Dec.{eqb, ltb};
+ghost use Rattle.state.specs.declared.Role.the-variants.{Master};
+ghost use Rattle.wins.specs.Wins.{passes, handedOver, won};
 use answers::Answer;
 use state::Election;
 use state::Node;
@@ -11,25 +11,32 @@ use state::Outcome;
 use state::Record;
 use state::Role;
 
-// Every slot of one owner goes to another.
-fn pass_on(slots: &mut [u16], old: u16, me: u16)
-    ensures { λ _. ⌜ now (slots .exit) ≡ passed (Replica old) me (now (slots .entry)) ⌝ }
+// Every slot of one owner goes to another, and how many did.
+fn pass_on(slots: &mut [u16], old: u16, me: u16) -> usize
+    ensures { λ r. ⌜ record { count = r; slots = now (slots .exit) } ≡ handedOver (λ owner. eqb owner old) me (now (slots .entry)) ⌝ }
 {
+    let mut count: usize = 0;
     let mut s: usize = 0;
     while s < slots.len() {
         if slots[s] == old {
             slots[s] = me;
+            count += 1;
         }
         s += 1;
     }
+    count
 }
 
-// The winner takes what its old master owned.
-fn take_over(slots: &mut [u16], role: Role, me: u16)
-    ensures { λ _. ⌜ now (slots .exit) ≡ passed role me (now (slots .entry)) ⌝ }
+// The winner takes what its old master owned, if that one's known configEpoch is below the election's epoch: slots never go
+// to an owner that is older.
+fn take_over(slots: &mut [u16], role: Role, me: u16, config: u64, epoch: u64) -> usize
+    ensures { λ r. ⌜ record { count = r; slots = now (slots .exit) } ≡ handedOver (passes role config epoch) me (now (slots .entry)) ⌝ }
 {
+    if config >= epoch {
+        return 0;
+    }
     match role {
-        Role::Master => (),
+        Role::Master => 0,
         Role::Replica(old) => pass_on(slots, old as u16, me),
     }
 }
@@ -45,23 +52,22 @@ fn own_role(known: Record, me: u16, size: u16) -> Role
     Role::Master
 }
 
-// A master with the election's epoch, all that its old master owned is its own, and the election is closed.
+// A master with the election's epoch, and the election is closed, whatever passes.
 pub fn won(node: Node, slots: &mut [u16], epoch: u64) -> Outcome
     ensures { λ r. ⌜ record { outcome = r; slots = now (slots .exit) } ≡ won node (now (slots .entry)) epoch ⌝ }
 {
     let me = node.me as usize;
-    if me >= tables::NODES {
-        return Outcome {
-            answer: Answer::Won,
-            node: changes::with_election(node, Election::Closed),
-        };
-    }
+    let own = records::place_of(me);
     let mut next = node;
-    let known = next.records[me];
-    take_over(slots, own_role(known, node.me, node.size), node.me);
-    next.records[me] = changes::with_config(changes::with_role(known, Role::Master), epoch);
+    let there = next.records[own];
+    let role = own_role(records::known_of(me, there), node.me, node.size);
+    let old = state::followed(role) as usize;
+    let master = records::known_of(old, next.records[records::place_of(old)]);
+    let count = take_over(slots, role, node.me, master.config, epoch);
+    let winner = changes::with_config(changes::with_role(there, Role::Master), epoch);
+    next.records[own] = records::kept_of(me, winner, there);
     Outcome {
-        answer: Answer::Won,
+        answer: Answer::Won(count),
         node: changes::with_election(next, Election::Closed),
     }
 }
