@@ -52,7 +52,7 @@ use Rattle.acks.proofs.Laws.{passing-changed, ack-laws}
 use Rattle.kinds.specs.Kinds.{onKind}
 use Rattle.node.specs.Step.{turnedAway, taken, takenIn, onFrame}
 use Rattle.promises.specs.Claims.{staleAt}
-use Rattle.promises.specs.Exactly.{saidTo, answerTo, Reads, GrantableLine, GrantedExactly, SlotPassesExactly, UnownedGoesExactly, HeartbeatSays, Yields, SlotWon, SlotWonExactly, WinSays}
+use Rattle.promises.specs.Exactly.{saidTo, answerTo, Reads, GrantableLine, GrantedExactly, SlotPassesExactly, UnownedGoesExactly, HeartbeatSays, Winning, Yields, SlotWon, SlotWonExactly, WinSays}
 use Rattle.promises.proofs.Sounds.{sender-listed}
 use Rattle.promises.proofs.Claims.{claimantOf, stale-lowest}
 
@@ -234,7 +234,7 @@ heartbeat-says n slots reports line h sender role q a =
 
 -- ---- a slot that is won
 
-module _ (n : Node) (slots reports line : List ℕ) (h : Header) (voter candidate : ℕ) (q : Reads n slots reports line h (Ack voter candidate)) (a : answerTo n slots reports line ≡ 30) where
+module _ (n : Node) (slots reports line : List ℕ) (h : Header) (x : Winning n slots reports line h) where
   abbrev role : Role
   role = roleAt n (n .me)
 
@@ -242,16 +242,16 @@ module _ (n : Node) (slots reports line : List ℕ) (h : Header) (voter candidat
   abbrev goes : ℕ → Bool
   goes owner = wins.passes role (recordAt n (followed role) .config) (h .epoch) owner
 
-  done : LineTaken n slots reports line h (Ack voter candidate) q
-  done = won-taken n slots reports line h (Ack voter candidate) q a
+  done : LineTaken n slots reports line h (Ack (x .voter) (x .candidate)) (x .ack)
+  done = won-taken n slots reports line h (Ack (x .voter) (x .candidate)) (x .ack) (x .answer)
 
-  win : Wins (arrived (h .time) (h .epoch) n) slots voter candidate (h .epoch) (acked (arrived (h .time) (h .epoch) n) slots voter candidate (h .epoch))
+  win : let m = arrived (h .time) (h .epoch) n in Wins m slots (x .voter) (x .candidate) (h .epoch) (acked m slots (x .voter) (x .candidate) (h .epoch))
   unfolding onKind
-  win = ack-laws (arrived (h .time) (h .epoch) n) slots voter candidate (h .epoch) .wins (ap (λ (x : Stepped). number (x .outcome .answer)) (sym (done .step)) ∙ a)
+  win = ack-laws (arrived (h .time) (h .epoch) n) slots (x .voter) (x .candidate) (h .epoch) .wins (ap (λ (y : Stepped). number (y .outcome .answer)) (sym (done .step)) ∙ x .answer)
 
   table : onFrame n slots reports line .slots ≡ handedOver goes (n .me) slots .slots
   unfolding onKind withClock withCurrent
-  table = ap (λ (x : Stepped). x .slots) (done .step) ∙ win .slots-pass
+  table = ap (λ (y : Stepped). y .slots) (done .step) ∙ win .slots-pass
 
   yields : (s : ℕ) → goes (getD slots s 0) ≡ true → Yields n slots reports line (h .epoch) s
   yields s e =
@@ -274,7 +274,7 @@ module _ (n : Node) (slots reports line : List ℕ) (h : Header) (voter candidat
       w = whole (length slots) (length reports) (done .goes-in .lengths)
 
       entry : getD (onFrame n slots reports line .slots) s 0 ≡ cond (goes (getD slots s 0)) (n .me) (getD slots s 0)
-      entry = ap (λ (x : List ℕ). getD x s 0) table ∙ mapped-at (λ s owner. cond (goes owner) (n .me) owner) 0 slots s 0 0 (omega (arith, w, l))
+      entry = ap (λ (t : List ℕ). getD t s 0) table ∙ mapped-at (λ s owner. cond (goes owner) (n .me) owner) 0 slots s 0 0 (omega (arith, w, l))
 
       by : {A : Type 0} (b : Bool) → goes (getD slots s 0) ≡ b → (goes (getD slots s 0) ≡ true → A) → (goes (getD slots s 0) ≡ false → A) → A
       by true e f g = f e
@@ -283,12 +283,12 @@ module _ (n : Node) (slots reports line : List ℕ) (h : Header) (voter candidat
   said-so : saidTo n slots reports line ≡ record { number = 30; values = passed (changedFrom (λ owner. true) slots (onFrame n slots reports line .slots)) }
   unfolding onKind withClock withCurrent
   said-so =
-      ap said (ap (λ (x : Stepped). x .outcome .answer) (done .step) ∙ win .told)
+      ap said (ap (λ (y : Stepped). y .outcome .answer) (done .step) ∙ win .told)
       ∙ ap (λ (k : ℕ). said (Won k)) (passing-changed n slots (h .epoch) (done .goes-in .node-sound))
-      ∙ ap (λ (x : List ℕ). said (Won (changedFrom (λ owner. true) slots x))) (sym table)
+      ∙ ap (λ (t : List ℕ). said (Won (changedFrom (λ owner. true) slots t))) (sym table)
 
 pub slot-won-exactly-on-lines : (n : Node) (slots reports line : List ℕ) → SlotWonExactly n slots reports line
-slot-won-exactly-on-lines n slots reports line h voter candidate q a s l d = slot-won n slots reports line h voter candidate q a s l d
+slot-won-exactly-on-lines n slots reports line h x s l d = slot-won n slots reports line h x s l d
 
 pub win-says : (n : Node) (slots reports line : List ℕ) → WinSays n slots reports line
-win-says n slots reports line h voter candidate q a = said-so n slots reports line h voter candidate q a
+win-says n slots reports line h x = said-so n slots reports line h x

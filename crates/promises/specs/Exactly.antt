@@ -88,6 +88,13 @@ module _ (n : Node) (slots reports line : List ℕ) where
         values = counts (changedFrom (λ o. not (listed n o)) slots after) (changedFrom (listed n) slots after) (firstAt (staleAt n (bitmapOf line) sender role (h .config)) slots);
       }
 
+  -- the line is an ack that wins the election of its epoch
+  pub record Winning (h : Header) : Type 0 where
+    pub voter : ℕ
+    pub candidate : ℕ
+    pub ack : Reads h (Ack voter candidate)
+    pub answer : answerTo ≡ 30
+
   -- the owner of slot s is this node's old master, and its known configEpoch is below that epoch
   pub record Yields (epoch s : ℕ) : Type 0 where
     pub old-master : roleAt n (n .me) ≡ Replica (getD slots s 0)
@@ -99,14 +106,11 @@ module _ (n : Node) (slots reports line : List ℕ) where
     pub only-if : getD (onFrame n slots reports line .slots) s 0 ≡ n .me → Yields epoch s
     pub otherwise : (Yields epoch s → ⊥) → getD (onFrame n slots reports line .slots) s 0 ≡ getD slots s 0
 
-  -- for an ack that wins the election of its epoch
   abbrev pub SlotWonExactly : Type 0
-  SlotWonExactly =
-      (h : Header) (voter candidate : ℕ) → Reads h (Ack voter candidate) → answerTo ≡ 30
-      → (s : ℕ) → s < slotCount → (getD slots s 0 ≡ n .me → ⊥) → SlotWon (h .epoch) s
+  SlotWonExactly = (h : Header) → Winning h → (s : ℕ) → s < slotCount → (getD slots s 0 ≡ n .me → ⊥) → SlotWon (h .epoch) s
 
-  -- Its answer says how many entries changed, all of them to this node.
+  -- A win is answered 30 with how many entries changed, all of them to this node.
   abbrev pub WinSays : Type 0
   WinSays =
-      (h : Header) (voter candidate : ℕ) → Reads h (Ack voter candidate) → answerTo ≡ 30
+      (h : Header) → Winning h
       → saidTo ≡ record { number = 30; values = passed (changedFrom (λ owner. true) slots (onFrame n slots reports line .slots)) }
