@@ -378,8 +378,16 @@ def bad(t):
     return t.put(" ".join(good))
 
 
+def comes_back(t, to, master):
+    """Its old master is heard again while a node's election is open, in an epoch around the election's: where it is not below, a win passes nothing."""
+    r = t.random
+    config = max(0, to.election["epoch"] + r.choice((-1, 0, 0, 1, 4)))
+    slots = [s for s in range(16384) if t.nodes()[master].owner[s] == master]
+    t.frame(to.me, "01" + byte(master) + "0000" + wide(max(config, to.current)) + wide(config) + wide(to.clock + r.choice((0, 1, 50))), slots)
+
+
 def failover(t):
-    """A whole election, with losses: a master with slots is FAIL for most, its replicas open, ask and hear."""
+    """A whole election, with losses: a master with slots is FAIL for most, its replicas open, ask and hear; now and then the master comes back meanwhile."""
     r = t.random
     replicas = [n for n in t.nodes() if n.me in n.follows]
     if not replicas:
@@ -401,6 +409,8 @@ def failover(t):
             if r.random() < 0.85:
                 request(t, voter, n.me)
     for n in runners:
+        if n.election and r.random() < 0.35:
+            comes_back(t, n, master)
         for _ in range(r.randrange(1, 3 + len(voters))):
             if n.election:
                 ack(t, n)

@@ -30,7 +30,7 @@ def load(name, path):
 
 
 node01 = load("node_reference", Path(__file__).resolve().parents[1] / "node" / "reference.py")
-TOP, UNOWNED = node01.TOP, node01.UNOWNED
+TOP = node01.TOP
 
 NAMES = {
     0: "done",
@@ -88,6 +88,7 @@ class Member(node01.Node):
         self.failed_at = [None] * size
         self.voted_at = [None] * size
         self.election = None  # epoch, time of opening, set of voters, those heard
+        self.passed = None  # slots that passed to it by its win
         self.marks = {}  # slot -> ("migrating" or "importing", peer)
         self.kept = b""  # of its feed: the line that has not ended yet, all of it
 
@@ -135,8 +136,11 @@ class Member(node01.Node):
         if 2 * len(e["heard"]) <= len(e["voters"]):
             return 0
         old = self.follows.pop(self.me)
+        self.passed = 0
+        if self.config[old] < e["epoch"]:  # document 02, [14]: else none pass, and it is a master all the same
+            self.passed = self.owner.count(old)
+            self.owner = [self.me if o == old else o for o in self.owner]
         self.config[self.me] = e["epoch"]
-        self.owner = [self.me if o == old else o for o in self.owner]
         self.election = None
         return 30
 
@@ -363,7 +367,6 @@ class Run:
 
     def frame(self, node, line):
         flags = list(node.flag)
-        old = node.owner.count(node.follows.get(node.me, UNOWNED))
         answer = node.line(line)
         said = f"{answer} {NAMES[answer]}"
         words = {"none": "is no longer flagged", "PFAIL": "is now PFAIL", "FAIL": "is now FAIL"}
@@ -375,7 +378,8 @@ class Run:
             said += f", slot {node.newer(f)}"
         if answer == 30:
             self.wins.append((f["current"], node.me))
-            notices.append(f"epoch {f['current']} won, slots taken over: {old}")
+            said += f", slots passed {node.passed}"
+            notices.append(f"epoch {f['current']} won, slots taken over: {node.passed}")
         if answer == 0 and f["kind"] == 1:
             sender, (bound, rebound, stale) = f["sender"], node.tally
             said = f"0 heard, bound {bound}, rebound {rebound}"
