@@ -120,14 +120,14 @@ fn routed(node: Node, slots: &[u16], line: &[u8], call: Call) -> Redirect {
 
 // ---- a line, done and told
 
-// What a line came to: the node after it, what is said of it, END if nothing is, the answer, the node that a frame names and
-// how many slots the node's master had before it. How much of a piece was handed over, 0 if nothing is left.
+// What a line came to: the node after it, what is said of it, END if nothing is, the answer, the node that a frame names and,
+// in the summary, how many slots the node owns. How much of a piece was handed over, 0 if nothing is left.
 struct Done {
     seat: Seat,
     said: Note,
     answer: Answer,
     named: u8,
-    passed: u64,
+    slots: u64,
     handed: usize,
 }
 
@@ -137,18 +137,18 @@ fn finished(seat: Seat, said: Note) -> Done {
         said,
         answer: Answer::Done,
         named: 0,
-        passed: 0,
+        slots: 0,
         handed: 0,
     }
 }
 
-fn answered(seat: Seat, answer: Answer, named: u8, passed: u64) -> Done {
+fn answered(seat: Seat, answer: Answer, named: u8) -> Done {
     Done {
         seat,
         said: tellings::of_answer(answer),
         answer,
         named,
-        passed,
+        slots: 0,
         handed: 0,
     }
 }
@@ -158,12 +158,11 @@ fn do_frame(seat: Seat, slots: &mut [u16], reports: &mut [u64], line: &[u8]) -> 
     let n = calls::frame(line, &mut room);
     let frame = sources::part(&room, 0, n);
     let node = seat.node;
-    let passed = seats::owed(node, slots);
     let named = arguments::named(frame);
     let outcome = node::frame(node, slots, reports, frame);
     let after = outcome.node;
     let answer = outcome.answer;
-    answered(seats::seated(after, seat), answer, named, passed)
+    answered(seats::seated(after, seat), answer, named)
 }
 
 // The node that a line of a feed names, if the line ends in this piece.
@@ -175,14 +174,14 @@ fn named_in(kept: Kept, piece: &[u8]) -> u8 {
 }
 
 // What a call of a feed came to.
-fn fed(fed: Fed, named: u8, passed: u64) -> Done {
+fn fed(fed: Fed, named: u8) -> Done {
     let node = fed.node;
     let kept = fed.kept;
     let told = fed.told;
     let seat = Seat { node, kept };
     match told {
         feed::Told::NoLine => finished(seat, tellings::of_kept(kept)),
-        feed::Told::Answered(answer) => answered(seat, answer, named, passed),
+        feed::Told::Answered(answer) => answered(seat, answer, named),
     }
 }
 
@@ -207,11 +206,10 @@ fn do_piece(
     let piece = sources::part(&room, handed, n);
     let node = seat.node;
     let kept = seat.kept;
-    let passed = seats::owed(node, slots);
     let named = named_in(kept, piece);
     let outcome = feed::feed(node, slots, reports, kept, piece);
     let used = outcome.used;
-    let mut done = fed(outcome, named, passed);
+    let mut done = fed(outcome, named);
     done.handed = handed_to(sources::further(handed, used), n);
     done
 }
@@ -223,7 +221,7 @@ fn do_other(seat: Seat, slots: &[u16], line: &[u8], call: Call) -> Done {
         let outcome = called(node, slots, call);
         let after = outcome.node;
         let answer = outcome.answer;
-        return answered(seats::seated(after, seat), answer, 0, 0);
+        return answered(seats::seated(after, seat), answer, 0);
     }
     finished(seat, tellings::of_redirect(routed(node, slots, line, call)))
 }
@@ -234,7 +232,7 @@ fn last_seen(seat: Seat, slots: &[u16], k: usize) -> Done {
     let known = seats::own(node);
     let role = known.role;
     let mut done = finished(seat, tellings::of_role(k as u64, role));
-    done.passed = seats::owned(slots, seats::short(k as u64));
+    done.slots = seats::owned(slots, seats::short(k as u64));
     done
 }
 
@@ -292,7 +290,7 @@ fn telling(count: u64, k: usize, before: Node, done: Done, form: u8) -> Told {
         voted: node.voted,
         config: known.config,
         named: done.named as u64,
-        passed: done.passed,
+        slots: done.slots,
         answer,
         election: opening(form, answer, election),
         before: seats::flags(before),

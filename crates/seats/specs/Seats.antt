@@ -8,7 +8,6 @@ use Rattle.tables.specs.Sizes.{nodeRoom}
 use Rattle.state.specs.Changes.{withRole, onRecord}
 use Rattle.state.specs.declared.Node.{Node}
 use Rattle.state.specs.declared.Record.{Record}
-use Rattle.state.specs.declared.Role.{Role}
 use Rattle.state.specs.declared.Role.the-variants.{Master, Replica}
 use Rattle.state.specs.declared.Flag.{Flag}
 use Rattle.state.specs.declared.Flag.the-variants.{Clear, Pfail, Fail}
@@ -38,8 +37,3 @@ flagOf known = flagNumber (known .flag)
 -- how many slots of a table are node k's
 abbrev pub owned : List ℕ → ℕ → ℕ
 owned slots k = countAt (λ s owner. eqb owner k) slots
-
--- and how many pass to a node of that role if it wins: those of its master
-abbrev pub owed : Role → List ℕ → ℕ
-owed Master slots = 0
-owed (Replica m) slots = owned slots m

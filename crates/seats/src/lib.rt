@@ -6,7 +6,7 @@ ghost use Prim.Native.Nat.{_%_};
 ghost use Rattle.tables.specs.Sizes.{nodeRoom};
 ghost use Rattle.scraps.specs.Scraps.{short, partOf};
 ghost use Rattle.state.specs.Node.{recordAt};
-ghost use Rattle.seats.specs.Seats.{master, follows, waits, flagNumber, flagOf, owned, owed};
+ghost use Rattle.seats.specs.Seats.{master, follows, waits, flagNumber, flagOf, owned};
 use scraps::Kept;
 use state::Flag;
 use state::Node;
@@ -129,16 +129,4 @@ pub fn owned(slots: &[u16], k: u16) -> u64
         s += 1;
     }
     count
-}
-
-// How many slots a node's master has in the node's table: what passes if it wins.
-pub fn owed(node: Node, slots: &[u16]) -> u64
-    ensures { λ r. ⌜ r ≡ owed (recordAt node (node .me % 64) .role) (now (slots .entry)) ⌝ }
-{
-    let known = own(node);
-    let role = known.role;
-    match role {
-        Role::Master => 0,
-        Role::Replica(master) => owned(slots, master as u16),
-    }
 }

@@ -140,7 +140,7 @@ fn put_text(out: &mut [u8], at: usize, texts: &[u8], note: Note) -> usize {
 }
 
 // All texts: the answers' first, then the others. Each goes up to a ~.
-const TEXTS: [u8; 1558] = *b"done~\
+const TEXTS: [u8; 1574] = *b"done~\
     a table has the wrong length~\
     not a frame~\
     no such node~\
@@ -170,7 +170,7 @@ const TEXTS: [u8; 1558] = *b"done~\
     ~\
     an election is still young~\
     ~\
-    won~\
+    won, slots passed %~\
     no election is open~\
     for another candidate~\
     of another epoch~\
@@ -266,6 +266,7 @@ pub fn of_answer(answer: Answer) -> Note {
     match answer {
         Answer::Heard(tally) => of_tally(tally),
         Answer::Outdated(slot) => text(row, slot as u64, 0),
+        Answer::Won(passed) => text(row, passed as u64, 0),
         _ => text(row, 0, 0),
     }
 }
@@ -291,7 +292,8 @@ pub fn of_kept(kept: Kept) -> Note {
 }
 
 // What is told of a node after a line: the line's number and the node's, what is said, END if nothing is, the node's epochs,
-// what came with a frame's answer, the election if one was opened, and the flags' numbers before and after.
+// the node that a frame names, in the summary how many slots are its own, the answer, the election if one was opened, and the
+// flags' numbers before and after.
 pub struct Told {
     pub line: u64,
     pub node: u64,
@@ -300,7 +302,7 @@ pub struct Told {
     pub voted: u64,
     pub config: u64,
     pub named: u64,
-    pub passed: u64,
+    pub slots: u64,
     pub answer: Answer,
     pub election: Election,
     pub before: [u8; tables::NODES],
@@ -317,21 +319,13 @@ pub fn put_told(out: &mut [u8], at: usize, told: Told) -> usize {
         return at;
     }
     if said.row >= MASTER {
-        return put_node(out, at, said, told.config, told.passed, &after);
+        return put_node(out, at, said, told.config, told.slots, &after);
     }
     let a = put(out, at, text(HEAD, told.line, told.node));
     let b = put(out, a, said);
     let c = put(out, b, text(EPOCHS, told.current, told.voted));
     let d = put_changes(out, c, &before, &after);
-    let e = put_news(
-        out,
-        d,
-        answer,
-        told.named,
-        told.voted,
-        told.config,
-        told.passed,
-    );
+    let e = put_news(out, d, answer, told.named, told.voted, told.config);
     put_opened(out, e, election)
 }
 
@@ -376,7 +370,7 @@ fn put_tally(out: &mut [u8], at: usize, node: u64, tally: Tally) -> usize {
 }
 
 // What came with a frame's answer, said by the node that the frame names: claims, a vote of the epoch `voted`, or a win of
-// the epoch `config` by which so many slots passed.
+// the epoch `config`.
 fn put_news(
     out: &mut [u8],
     at: usize,
@@ -384,12 +378,11 @@ fn put_news(
     named: u64,
     voted: u64,
     config: u64,
-    passed: u64,
 ) -> usize {
     match answer {
         Answer::Heard(tally) => put_tally(out, at, named, tally),
         Answer::Granted => put(out, at, text(GRANTED, voted, named)),
-        Answer::Won(_) => put(out, at, text(WON, config, passed)),
+        Answer::Won(passed) => put(out, at, text(WON, config, passed as u64)),
         _ => at,
     }
 }
