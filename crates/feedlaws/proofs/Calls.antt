@@ -1,7 +1,7 @@
 -- A feed is a list of calls, so that what holds of every list of calls holds of feeds.
 use mathlib.Core.Path.{_≡_, refl, sym, ap, subst, _∙_}
 use mathlib.Core.Bool.{Bool, true, false, cond}
-use mathlib.Core.List.{List, [], _∷_, _++_, append-nil, append-assoc, flatten}
+use mathlib.Core.List.{List, [], _∷_, _++_, append-nil, append-assoc, map, map-append, flatten}
 use Prim.Native.Nat.{ℕ}
 use lib.Dec.{eqb}
 use lib.ListN.{getD, drop}
@@ -16,12 +16,13 @@ use Rattle.node.specs.Step.{onFrame}
 use Rattle.node.specs.Calls.{Tables, Call, frame, outcome}
 use Rattle.promises.proofs.Sounds.{every-call-keeps-sound}
 use Rattle.safety.specs.Demand3.{Roster, Made, stateOf}
+use Rattle.monotone.specs.Runs.{World, after, run}
 use Rattle.sameness.specs.Sameness.{ActAlike, LentCall}
 use Rattle.scraps.specs.Scraps.{Line, short, long}
 use Rattle.feed.specs.Feed.{Station, onLine, ends}
 use Rattle.feed.proofs.Lines.{empty-is-long}
 use Rattle.streams.specs.Streams.{heard, onByte, stream}
-use Rattle.feedlaws.specs.Calls.{frameFor, callOf, made, calls, answersTo, FeedsAreCalls, FeedsKeepSound, HeardAlike, FedAlike}
+use Rattle.feedlaws.specs.Calls.{frameFor, callOf, made, calls, answersTo, FeedsAreCalls, worldOf, FeedsAreRuns, FeedsKeepSound, HeardAlike, FedAlike}
 use Rattle.streams.proofs.Streams.{byTest, cut-anywhere}
 
 -- a line is answered as the frame that it counts as
@@ -90,6 +91,36 @@ feeds-are-calls r timeouts before v s pieces h =
     let k = bytewise r timeouts before v s (flatten pieces) h in
     let e = cut-anywhere s .pieces pieces in
     record { answers = rw e (k .answers); node = rw e (k .node); others = k .others }
+
+-- ---- calls one after the other
+
+-- later calls after earlier ones
+run-append : (w : World) (later earlier : List Call) → run after w (later ++ earlier) ≡ run after (run after w earlier) later
+run-append w [] earlier = refl
+run-append w (c ∷ later) earlier = ap (λ (x : World). after x c) (run-append w later earlier)
+
+-- a call, without the tables lent
+abbrev bare : Made → Call
+bare m = m .call
+
+-- one byte
+world-after : (v : ℕ) (s : Station) (b : ℕ) → run after (worldOf s) (map bare (made v s b)) ≡ worldOf (onByte s b .after)
+world-after v s b = go (eqb b newline)
+  where
+    go : (t : Bool) → run after (worldOf s) (map bare (madeBy t v s)) ≡ worldOf (byTest t s b .after)
+    go true = ap (λ (x : Stepped). record { node = x .outcome .node; tables = record { slots = x .slots; reports = x .reports } }) (frame-for (s .node) (s .slots) (s .reports) (s .line))
+    go false = refl
+
+-- a whole feed, byte by byte and in pieces
+bytes-are-runs : (v : ℕ) (s : Station) (bytes : List ℕ) → run after (worldOf s) (map bare (calls v s bytes)) ≡ worldOf (stream s bytes .after)
+unfolding calls stream
+bytes-are-runs v s [] = refl
+bytes-are-runs v s (b ∷ bs) =
+    let t = onByte s b .after in
+    rw (map-append bare (calls v t bs) (made v s b), run-append (worldOf s) (map bare (calls v t bs)) (map bare (made v s b)), world-after v s b) (bytes-are-runs v t bs)
+
+pub feeds-are-runs : FeedsAreRuns
+feeds-are-runs v s pieces = rw (cut-anywhere s .pieces pieces) (bytes-are-runs v s (flatten pieces))
 
 -- ---- soundness
 

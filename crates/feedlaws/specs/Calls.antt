@@ -1,7 +1,7 @@
 -- A feed's lines among the calls of demand 3: document 02, [9], and document 01, "The lists of demand 3".
 use mathlib.Core.Path.{_≡_}
 use mathlib.Core.Bool.{true, cond}
-use mathlib.Core.List.{List, [], _∷_, _++_, flatten}
+use mathlib.Core.List.{List, [], _∷_, _++_, map, flatten}
 use Prim.Native.Nat.{ℕ}
 use lib.Dec.{eqb}
 use Rattle.tables.specs.Lists.{newline}
@@ -12,6 +12,7 @@ use Rattle.node.specs.Calls.{frame, outcome}
 use Rattle.scraps.specs.Scraps.{Line, short, long}
 use Rattle.feed.specs.Feed.{Station}
 use Rattle.safety.specs.Demand3.{Roster, Made, stateOf}
+use Rattle.monotone.specs.Runs.{World, after, run}
 use Rattle.sameness.specs.Sameness.{ActAlike}
 use Rattle.streams.specs.Streams.{Heard, onByte, stream, inPieces}
 
@@ -51,6 +52,15 @@ pub record AListOfCalls (r : Roster) (timeouts : ℕ → ℕ) (before : List Mad
 -- for a feed that is handed to node v, whose state the station has, after any list of calls
 abbrev pub FeedsAreCalls : Type 0
 FeedsAreCalls = (r : Roster) (timeouts : ℕ → ℕ) (before : List Made) (v : ℕ) (s : Station) (pieces : List (List ℕ)) → stateOf r timeouts before v ≡ s .node → AListOfCalls r timeouts before v s pieces
+
+-- They are also such calls as document 02, [14], speaks of, each given the node and the tables as the last one left them: what a
+-- station has beside its line
+abbrev pub worldOf : Station → World
+worldOf s = record { node = s .node; tables = record { slots = s .slots; reports = s .reports } }
+
+-- they leave it as the feed does, so that ownership slides back over no feed
+abbrev pub FeedsAreRuns : Type 0
+FeedsAreRuns = (v : ℕ) (s : Station) (pieces : List (List ℕ)) → run after (worldOf s) (map (λ (m : Made). m .call) (calls v s (flatten pieces))) ≡ worldOf (inPieces s pieces .after)
 
 -- ---- what holds of calls holds of feeds
 
