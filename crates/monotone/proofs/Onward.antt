@@ -8,9 +8,10 @@ use native.Mathlib.Nat.{le-refl}
 use native.Mathlib.Omega.{arith}
 use Rattle.state.specs.Node.{blank, recordAt, isMaster}
 use Rattle.state.specs.Changes.{withRecord, withRecords}
+use Rattle.state.specs.Outcomes.{Stepped}
 use Rattle.state.specs.declared.Node.{Node}
 use Rattle.state.specs.declared.Record.{Record}
-use Rattle.failure.proofs.Keeps.{at-set}
+use Rattle.tables.proofs.Lists.{at-set}
 use Rattle.monotone.specs.Runs.{World}
 use Rattle.monotone.specs.NeverSlidesBack.{Onward}
 
@@ -28,6 +29,10 @@ pub record Moves (a b : World) : Type 0 where
 
 abbrev pub world : Node → List ℕ → List ℕ → World
 world n slots reports = record { node = n; tables = record { slots = slots; reports = reports } }
+
+-- what a call leaves
+abbrev pub left : Stepped → World
+left s = world (s .outcome .node) (s .slots) (s .reports)
 
 -- ---- one record written anew
 

@@ -1,3 +1,5 @@
 pub mod Runs
 pub mod NeverSlidesBack
 pub mod Lists
+pub mod Before
+pub mod Examples

@@ -1,13 +1,14 @@
 -- Ownership never slides back: document 02, [14]. Once a slot is owned, the known configEpoch of its owner never falls.
 use mathlib.Core.Path.{_≡_}
 use mathlib.Core.Logic.{_⊎_}
-use mathlib.Core.List.{List, _++_}
+use mathlib.Core.List.{List, _∷_, _++_}
 use Prim.Native.Nat.{ℕ, _≤_, _<_}
 use Rattle.tables.specs.Sizes.{slotCount}
 use Rattle.state.specs.Node.{recordAt}
 use Rattle.marks.specs.Marks.{ownerAt}
-use Rattle.node.specs.Calls.{Call}
-use Rattle.monotone.specs.Runs.{World, Step, run}
+use Rattle.node.specs.Calls.{Tables, Call}
+use Rattle.safety.specs.Demand3.{Roster}
+use Rattle.monotone.specs.Runs.{World, Step, after, run, fresh}
 
 -- ---- the words
 
@@ -54,3 +55,8 @@ abbrev pub NeverSlidesBack : Step → World → Type 0
 NeverSlidesBack step start =
     (later earlier : List Call) (s : ℕ) → s < slotCount → Owned (run step start earlier) s
     → StillOwned (run step start earlier) (run step start (later ++ earlier)) s
+
+-- from a fresh node
+pub record OwnershipNeverSlidesBack (r : Roster) (me timeout : ℕ) (t : Tables) : Type 0 where
+  pub each-call : (cs : List Call) (c : Call) → Onward (run after (fresh r me timeout t) cs) (run after (fresh r me timeout t) (c ∷ cs))
+  pub never : NeverSlidesBack after (fresh r me timeout t)

@@ -1,0 +1,101 @@
+-- Computed lists: a slot passes twice, by a win and by a claim, each time to a greater configEpoch; and a win whose old master
+-- rose after the opening, by which nothing passes, and by which ownership slid back before [14]. This node is node 3 of the
+-- cases of document 01, a replica of node 0; every time is 0. The latest call comes first.
+use Prim.Native.Nat.{ℕ}
+use mathlib.Core.Path.{_≡_}
+use mathlib.Core.Bool.{true}
+use mathlib.Core.List.{List, [], _∷_}
+use lib.ListN.{replicate}
+use Rattle.tables.specs.Sizes.{slotCount, reportCount, unowned}
+use Rattle.answers.specs.declared.Answer.{Answer}
+use Rattle.answers.specs.declared.Answer.the-variants.{Won}
+use Rattle.state.specs.Node.{masterAt}
+use Rattle.state.specs.declared.Role.the-variants.{Master}
+use Rattle.frames.specs.Lines.{encode}
+use Rattle.frames.specs.declared.Kind.{Kind}
+use Rattle.frames.specs.declared.Kind.the-variants.{Heartbeat, Fail, Ack}
+use Rattle.node.specs.Calls.{Tables, Call, frame, opening, outcome}
+use Rattle.safety.specs.Examples.{roster}
+use Rattle.monotone.specs.Runs.{World, Step, after, run, fresh}
+use Rattle.monotone.specs.NeverSlidesBack.{epochOf, owner, ownersEpoch, NeverSlidesBack}
+use Rattle.monotone.specs.Before.{before14}
+
+-- ---- the calls
+
+-- nobody owns a slot, and nothing is reported
+abbrev pub tables : Tables
+tables = record { slots = replicate slotCount unowned; reports = replicate reportCount 0 }
+
+unfoldable pub start : World
+start = fresh roster 3 1000 tables
+
+-- a line's epochs are one number, and a bitmap claims slot 0
+abbrev pub gets : ℕ → Kind → Call
+gets epoch kind = frame (encode (record { header = record { time = 0; epoch = epoch; config = epoch }; kind = kind }) (1 ∷ replicate 2047 0))
+
+-- a master claims slot 0; node 0 is FAIL; a vote for this node
+abbrev pub claims : ℕ → ℕ → Call
+claims sender epoch = gets epoch (Heartbeat sender Master)
+
+abbrev pub fails : Call
+fails = gets 0 (Fail 1 0)
+
+abbrev pub votes : ℕ → ℕ → Call
+votes voter epoch = gets epoch (Ack voter 3)
+
+-- ---- the lists
+
+-- node 0 owns the slot and fails, this node opens for epoch 2, and one vote is counted
+unfoldable pub opened : List Call
+opened = votes 1 2 ∷ opening 0 ∷ fails ∷ claims 0 1 ∷ []
+
+-- it wins by another vote, and then a claim beats it
+unfoldable pub wins : List Call
+wins = votes 2 2 ∷ opened
+
+unfoldable pub beaten : List Call
+beaten = claims 1 3 ∷ wins
+
+-- node 0 comes back with epoch 5 before that vote does
+unfoldable pub back : List Call
+back = claims 0 5 ∷ opened
+
+unfoldable pub winsAllTheSame : List Call
+winsAllTheSame = votes 2 2 ∷ back
+
+-- ---- what comes of them
+
+-- who owns slot 0, and the known configEpoch of that node
+abbrev pub slot0 : Step → List Call → ℕ × ℕ
+slot0 step cs = let w = run step start cs in (owner w 0, ownersEpoch w 0)
+
+-- what a call is answered after others
+abbrev pub answerTo : Call → List Call → Answer
+answerTo c cs = let w = run after start cs in outcome (w .node) (w .tables) c .answer
+
+-- each time the slot passes, it does so to a greater epoch
+pub record PassesTwice : Type 0 where
+  pub bound : slot0 after opened ≡ (0, 1)
+  pub by-a-win : slot0 after wins ≡ (3, 2)
+  pub told : answerTo (votes 2 2) opened ≡ Won 1
+  pub by-a-claim : slot0 after beaten ≡ (1, 3)
+
+-- the slot stays, and its owner's epoch, which a winner of epoch 2 does not reach
+pub record NothingPasses : Type 0 where
+  pub risen : slot0 after back ≡ (0, 5)
+  pub stays : slot0 after winsAllTheSame ≡ (0, 5)
+  pub told : answerTo (votes 2 2) back ≡ Won 0
+  -- the winner is a master all the same
+  pub master : masterAt (run after start winsAllTheSame .node) 3 ≡ true
+  pub epoch : epochOf (run after start winsAllTheSame) 3 ≡ 2
+
+-- before [14] it passed all the same, so that the theorem does not hold of that step
+pub record SlidBack : Type 0 where
+  pub risen : slot0 before14 back ≡ (0, 5)
+  pub fallen : slot0 before14 winsAllTheSame ≡ (3, 2)
+  pub refuted : NeverSlidesBack before14 start → ⊥
+
+pub record Examples : Type 0 where
+  pub twice : PassesTwice
+  pub nothing : NothingPasses
+  pub slid-back : SlidBack
