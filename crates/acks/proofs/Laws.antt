@@ -15,7 +15,7 @@ use Rattle.nodesets.specs.declared.NodeSet.{NodeSet}
 use Rattle.nodesets.proofs.Members.{in-room, in-added, added-fits, most-counted}
 use Rattle.answers.specs.Answers.{number}
 use Rattle.answers.specs.declared.Answer.the-variants.{Done}
-use Rattle.state.specs.Node.{blank, recordAt, masterAt, roleAt, followed}
+use Rattle.state.specs.Node.{blank, recordAt, masterAt, roleAt}
 use Rattle.state.specs.Changes.{withRecord, withRecords, withElection}
 use Rattle.state.specs.Outcomes.{Slotted}
 use Rattle.state.specs.declared.Node.{Node}
@@ -24,8 +24,8 @@ use Rattle.state.specs.declared.Election.the-variants.{Closed}
 use Rattle.soundness.specs.Sound.{sound}
 use Rattle.soundness.proofs.Facts.{me-listed, followed-listed, voters-fit, heard-fit}
 use Rattle.soundness.proofs.Keeps.{Keeps}
-use Rattle.wins.specs.Wins.{passes}
-use Rattle.wins.proofs.Passing.{from-old, handed-over-changed}
+use Rattle.wins.specs.Wins.{yields}
+use Rattle.wins.proofs.Passing.{from-old-master, handed-over-changed}
 use Rattle.acks.specs.Acks.{passing, winner, promoted, acked}
 use Rattle.acks.specs.Counts.{Hears, Counts, GoesOn, Wins, AckLaws}
 use Rattle.acks.proofs.Steps.{ack-cases}
@@ -37,14 +37,16 @@ set-got [] i a d = refl
 set-got (x ∷ l) zero a d = refl
 set-got (x ∷ l) (suc i) a d = ap (λ (m : List _). x ∷ m) (set-got l i a d)
 
--- in a sound state no slot of the old master is this node's own, so that those that pass are the entries that changed
+-- in a sound state nobody follows itself, so that who yields is another
+pub yielded-by-another : (n : Node) (epoch : ℕ) → sound n ≡ true → (owner : ℕ) → yields n epoch owner ≡ true → owner ≡ n .me → ⊥
+yielded-by-another n epoch s owner e =
+    let own : recordAt n (n .me) .role ≡ roleAt n (n .me) = rw (lt-ltb (n .me) (n .size) (me-listed n s)) in
+    followed-listed n s (n .me) owner (me-listed n s) (own ∙ from-old-master n epoch owner e .0) .1
+
+-- and those that pass are the entries that changed
 pub passing-changed : (n : Node) (slots : List ℕ) (epoch : ℕ) → sound n ≡ true → passing n slots epoch .count ≡ changedFrom (λ owner. true) slots (passing n slots epoch .slots)
 passing-changed n slots epoch s =
-    let role = roleAt n (n .me) in
-    let config = recordAt n (followed role) .config in
-    let own : recordAt n (n .me) .role ≡ role = rw (lt-ltb (n .me) (n .size) (me-listed n s)) in
-    handed-over-changed (passes role config epoch) (n .me) slots
-    (λ owner e. followed-listed n s (n .me) owner (me-listed n s) (own ∙ from-old role config epoch owner e .0) .1)
+    handed-over-changed (yields n epoch) (n .me) slots (yielded-by-another n epoch s)
 
 module _ (n : Node) (slots : List ℕ) (voter candidate epoch : ℕ) where
   abbrev hearing : Slotted

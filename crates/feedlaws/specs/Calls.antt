@@ -53,12 +53,12 @@ pub record AListOfCalls (r : Roster) (timeouts : ℕ → ℕ) (before : List Mad
 abbrev pub FeedsAreCalls : Type 0
 FeedsAreCalls = (r : Roster) (timeouts : ℕ → ℕ) (before : List Made) (v : ℕ) (s : Station) (pieces : List (List ℕ)) → stateOf r timeouts before v ≡ s .node → AListOfCalls r timeouts before v s pieces
 
--- They are also such calls as document 02, [14], speaks of, each given the node and the tables as the last one left them: what a
--- station has beside its line
+-- what a station has beside its line
 abbrev pub worldOf : Station → World
 worldOf s = record { node = s .node; tables = record { slots = s .slots; reports = s .reports } }
 
--- they leave it as the feed does, so that ownership slides back over no feed
+-- Made one after the other, each given the node and the tables as the last one left them, these calls leave both as the feed
+-- does: ownership slides back over no feed (document 02, [14])
 abbrev pub FeedsAreRuns : Type 0
 FeedsAreRuns = (v : ℕ) (s : Station) (pieces : List (List ℕ)) → run after (worldOf s) (map (λ (m : Made). m .call) (calls v s (flatten pieces))) ≡ worldOf (inPieces s pieces .after)
 

@@ -2,13 +2,10 @@
 use mathlib.Core.Path.{_≡_, refl, ap}
 use mathlib.Core.Logic.{_⊎_, inl, inr}
 use mathlib.Core.Bool.{true, false}
-use mathlib.Core.List.{List, [], _∷_}
+use mathlib.Core.List.{List}
 use Prim.Native.Nat.{ℕ, _<_}
-use lib.Dec.{eqb}
 use lib.ListN.{length}
-use borrow.Author.Tests.{eqb-true}
-use Rattle.tables.specs.Sizes.{slotCount, reportCount}
-use Rattle.tables.proofs.Checks.{part}
+use Rattle.tables.specs.Sizes.{slotCount}
 use Rattle.tables.proofs.Lists.{at-set}
 use Rattle.answers.proofs.Checks.{testFor, past}
 use Rattle.state.specs.Node.{blank, recordAt, roleAt, followed}
@@ -29,8 +26,8 @@ use Rattle.frames.specs.declared.Kind.{Kind}
 use Rattle.frames.specs.declared.Kind.the-variants.{Heartbeat, Report, Fail, Request, Ack, Probe, Tick}
 use Rattle.frames.specs.declared.Decoded.{Decoded}
 use Rattle.frames.specs.declared.Decoded.the-variants.{NotAFrame, Good}
-use Rattle.refusals.specs.Refusals.{bothLong, isUnlisted, namesThisNode, refusals, turnsAway}
-use Rattle.refusals.proofs.Admitted.{admitted, arrives, all-turn-away}
+use Rattle.refusals.specs.Refusals.{isUnlisted, namesThisNode, refusals, turnsAway}
+use Rattle.refusals.proofs.Admitted.{slots-whole, admitted, arrives, all-turn-away}
 use Rattle.failure.specs.Keeps.{Kept}
 use Rattle.failure.proofs.Keeps.{size-kept, me-kept}
 use Rattle.probes.proofs.Keeps.{probed-kept, ticked-kept}
@@ -98,9 +95,6 @@ open-quiet n slots time =
 
 -- ---- a frame that passed the refusals
 
-whole : (slots reports : ℕ) → bothLong slots reports ≡ true → slots ≡ slotCount
-whole slots reports e = eqb-true slots slotCount (part 0 (eqb slots slotCount ∷ eqb reports reportCount ∷ []) e)
-
 ack-moves : (n : Node) (slots reports : List ℕ) (voter candidate epoch : ℕ) → sound n ≡ true → length slots ≡ slotCount → ReplicaAtZero n
     → let x = acked n slots voter candidate epoch in Moves (world n slots reports) (world (x .outcome .node) (x .slots) reports)
 unfolding withElection
@@ -160,7 +154,7 @@ frame-moves n slots reports line z =
         let t = f .header .time in
         let e = f .header .epoch in
         from-arrival t e n slots reports _
-        (kind-moves (arrived t e n) slots reports (bitmapOf line) (arrives n (length slots) (length reports) f w) (whole (length slots) (length reports) (w .lengths)) z (f .header) (f .kind) (w .all-listed) (w .not-this-node))
+        (kind-moves (arrived t e n) slots reports (bitmapOf line) (arrives n (length slots) (length reports) f w) (slots-whole (length slots) (length reports) (w .lengths)) z (f .header) (f .kind) (w .all-listed) (w .not-this-node))
 
 pub call-moves : (w : World) (c : Call) → ReplicaAtZero (w .node) → Moves w (after w c)
 call-moves w (frame line) z = frame-moves (w .node) (w .tables .slots) (w .tables .reports) line z

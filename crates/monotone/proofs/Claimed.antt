@@ -57,8 +57,11 @@ claim-fits sender epoch s e = (
 
 -- ---- the call
 
--- before [14] one that is not answered 30 left what it leaves today
-pub unwon : (w : World) (c : Call) → eqb (number (outcome (w .node) (w .tables) c .answer)) 30 ≡ false → before14 w c ≡ after w c
+-- it is not answered 30: then it left before [14] what it leaves today
+abbrev pub Unwon : World → Call → Type 0
+Unwon w c = eqb (number (outcome (w .node) (w .tables) c .answer)) 30 ≡ false
+
+pub unwon : (w : World) (c : Call) → Unwon w c → before14 w c ≡ after w c
 unwon w c e = rw e
 
 -- the claim is heard: it fits its line, and no check turns it away

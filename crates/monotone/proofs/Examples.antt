@@ -11,7 +11,6 @@ use Rattle.tables.specs.Below.{every}
 use Rattle.tables.specs.Lists.{mapFrom, countFrom, firstFrom}
 use Rattle.tables.specs.Sets.{wordOf, wordsFrom}
 use Rattle.nodesets.specs.NodeSets.{gathered}
-use Rattle.answers.specs.declared.Answer.{Answer}
 use Rattle.answers.specs.declared.Answer.the-variants.{Won}
 use Rattle.state.specs.Node.{masterAt}
 use Rattle.state.specs.Changes.{withRecords, withCurrent, withClock, withElection, arrived}
@@ -32,12 +31,12 @@ use Rattle.openings.specs.Openings.{opens}
 use Rattle.acks.specs.Acks.{promoted, acked}
 use Rattle.kinds.specs.Kinds.{onKind}
 use Rattle.node.specs.Step.{onFrame}
-use Rattle.node.specs.Calls.{Call, opening, outcome}
+use Rattle.node.specs.Calls.{Call, opening}
 use Rattle.monotone.specs.Runs.{World, after, run}
-use Rattle.monotone.specs.NeverSlidesBack.{epochOf, owner, Owned, ownersEpoch, NeverSlidesBack}
+use Rattle.monotone.specs.NeverSlidesBack.{epochOf, Owned}
 use Rattle.monotone.specs.Before.{before14}
-use Rattle.monotone.specs.Examples.{start, claims, fails, votes, opened, wins, beaten, back, winsAllTheSame, slot0, Examples}
-use Rattle.monotone.proofs.Claimed.{Heard, heard, unwon, after-claim, before-claim, first-bound}
+use Rattle.monotone.specs.Examples.{start, claims, fails, votes, opened, wins, beaten, back, winsAllTheSame, slot0, lastAnswer, PassesTwice, NothingPasses, SlidBack, Examples}
+use Rattle.monotone.proofs.Claimed.{Heard, heard, Unwon, unwon, after-claim, before-claim, first-bound}
 use Rattle.monotone.proofs.Onward.{left}
 
 -- ---- the worlds of the lists
@@ -56,19 +55,55 @@ halfway = run after bound rest
 abbrev won : World
 won = after halfway (votes 2 2)
 
--- the three claims are heard
-record Claims : Type 0 where
+abbrev returned : World
+returned = left (heard halfway 0 5)
+
+abbrev wonAllTheSame : World
+wonAllTheSame = after returned (votes 2 2)
+
+-- what is computed of them: the claims are heard, no call before the last vote is answered 30, and what is read at last
+record Computed : Type 0 where
   first : Heard start 0 1
   beats : Heard won 1 3
   returns : Heard halfway 0 5
+  at-fail : Unwon bound fails
+  at-opening : Unwon (run after bound (fails ∷ [])) (opening 0)
+  at-vote : Unwon (run after bound (opening 0 ∷ fails ∷ [])) (votes 1 2)
+  bound : slot0 halfway ≡ (0, 1)
+  by-a-win : slot0 won ≡ (3, 2)
+  told : lastAnswer halfway ≡ Won 1
+  by-a-claim : slot0 (left (heard won 1 3)) ≡ (1, 3)
+  risen : slot0 returned ≡ (0, 5)
+  owned : Owned returned 0
+  stays : slot0 wonAllTheSame ≡ (0, 5)
+  told-none : lastAnswer returned ≡ Won 0
+  master : masterAt (wonAllTheSame .node) 3 ≡ true
+  epoch : epochOf wonAllTheSame 3 ≡ 2
+  fallen : slot0 (before14 returned (votes 2 2)) ≡ (3, 2)
 
-claims-heard : Claims
+computed : Computed
 unfolding every mapFrom countFrom firstFrom wordOf wordsFrom gathered withRecords withCurrent withClock withElection arraysWhole boundsKept before idsAscend recordsSound electionSound marksAscend marksSound ownClear sound freshNode isDigit digit allDigits byteAt numberAt character hex bytesOf frameOf encode isBeyond frameRefusals refusals failed knownConfigs fate claim withSender bumped heartbeat openings.opening opens promoted acked onKind onFrame ones start
-claims-heard = record {
+computed = record {
   first = record { small = refl; slots = refl; reports = refl; passes = refl };
   beats = record { small = refl; slots = refl; reports = refl; passes = refl };
   returns = record { small = refl; slots = refl; reports = refl; passes = refl };
+  at-fail = refl;
+  at-opening = refl;
+  at-vote = refl;
+  bound = refl;
+  by-a-win = refl;
+  told = refl;
+  by-a-claim = refl;
+  risen = refl;
+  owned = omega arith;
+  stays = refl;
+  told-none = refl;
+  master = refl;
+  epoch = refl;
+  fallen = refl;
 }
+
+-- ---- the lists lead to them
 
 -- the table that the first claim leaves
 bound-slots : heard start 0 1 .slots ≡ 0 ∷ replicate 16383 unowned
@@ -83,90 +118,67 @@ is-bound = ap (λ (l : List ℕ). record { node = heard start 0 1 .outcome .node
 
 is-halfway : run after start opened ≡ halfway
 unfolding opened
-is-halfway = ap (λ (w : World). run after w rest) (after-claim start 0 1 (claims-heard .first) ∙ is-bound)
+is-halfway = ap (λ (w : World). run after w rest) (after-claim start 0 1 (computed .first) ∙ is-bound)
 
-is-back : run after start back ≡ left (heard halfway 0 5)
+is-back : run after start back ≡ returned
 unfolding back
-is-back = ap (λ (w : World). after w (claims 0 5)) is-halfway ∙ after-claim halfway 0 5 (claims-heard .returns)
+is-back = ap (λ (w : World). after w (claims 0 5)) is-halfway ∙ after-claim halfway 0 5 (computed .returns)
 
 is-beaten : run after start beaten ≡ left (heard won 1 3)
 unfolding beaten wins
-is-beaten = ap (λ (w : World). after (after w (votes 2 2)) (claims 1 3)) is-halfway ∙ after-claim won 1 3 (claims-heard .beats)
+is-beaten = ap (λ (w : World). after (after w (votes 2 2)) (claims 1 3)) is-halfway ∙ after-claim won 1 3 (computed .beats)
 
--- ---- before [14]
+-- by the step before [14] too, up to the last vote
+was-halfway : run before14 start opened ≡ halfway
+unfolding opened
+was-halfway =
+    ap (λ (w : World). run before14 w rest) (before-claim start 0 1 (computed .first) ∙ is-bound)
+    ∙ ap (λ (w : World). run before14 w (votes 1 2 ∷ opening 0 ∷ [])) (unwon bound fails (computed .at-fail))
+    ∙ ap (λ (w : World). before14 w (votes 1 2)) (unwon (run after bound (fails ∷ [])) (opening 0) (computed .at-opening))
+    ∙ unwon (run after bound (opening 0 ∷ fails ∷ [])) (votes 1 2) (computed .at-vote)
 
-same-halfway : run before14 bound rest ≡ halfway
-unfolding every mapFrom countFrom firstFrom wordOf wordsFrom gathered withRecords withCurrent withClock withElection arraysWhole boundsKept before idsAscend recordsSound electionSound marksAscend marksSound ownClear sound freshNode isDigit digit allDigits byteAt numberAt character hex bytesOf frameOf encode isBeyond frameRefusals refusals failed knownConfigs fate claim withSender bumped heartbeat openings.opening opens promoted acked onKind onFrame ones start
-same-halfway =
-    ap (λ (w : World). run before14 w (votes 1 2 ∷ opening 0 ∷ [])) (unwon bound fails refl)
-    ∙ ap (λ (w : World). before14 w (votes 1 2)) (unwon (run after bound (fails ∷ [])) (opening 0) refl)
-    ∙ unwon (run after bound (opening 0 ∷ fails ∷ [])) (votes 1 2) refl
-
-was-back : run before14 start back ≡ left (heard halfway 0 5)
-unfolding opened back
-was-back =
-    ap (λ (w : World). before14 (run before14 w rest) (claims 0 5)) (before-claim start 0 1 (claims-heard .first) ∙ is-bound)
-    ∙ ap (λ (w : World). before14 w (claims 0 5)) same-halfway
-    ∙ before-claim halfway 0 5 (claims-heard .returns)
+was-back : run before14 start back ≡ returned
+unfolding back
+was-back = ap (λ (w : World). before14 w (claims 0 5)) was-halfway ∙ before-claim halfway 0 5 (computed .returns)
 
 -- ---- the examples
 
-abbrev seen : World → ℕ × ℕ
-seen w = (owner w 0, ownersEpoch w 0)
+twice : PassesTwice
+unfolding wins
+twice = record {
+  bound = ap slot0 is-halfway ∙ computed .bound;
+  by-a-win = ap (λ (w : World). slot0 (after w (votes 2 2))) is-halfway ∙ computed .by-a-win;
+  told = ap lastAnswer is-halfway ∙ computed .told;
+  by-a-claim = ap slot0 is-beaten ∙ computed .by-a-claim;
+}
 
--- the answer to the last vote
-abbrev answerTo : World → Answer
-answerTo w = outcome (w .node) (w .tables) (votes 2 2) .answer
-
-abbrev returned : World
-returned = left (heard halfway 0 5)
+nothing : NothingPasses
+unfolding winsAllTheSame
+nothing = record {
+  risen = ap slot0 is-back ∙ computed .risen;
+  stays = ap (λ (w : World). slot0 (after w (votes 2 2))) is-back ∙ computed .stays;
+  told = ap lastAnswer is-back ∙ computed .told-none;
+  master = ap (λ (w : World). masterAt (after w (votes 2 2) .node) 3) is-back ∙ computed .master;
+  epoch = ap (λ (w : World). epochOf (after w (votes 2 2)) 3) is-back ∙ computed .epoch;
+}
 
 -- 5 is not at most 2
-refutes : slot0 before14 back ≡ (0, 5) → slot0 before14 winsAllTheSame ≡ (3, 2) → Owned (run before14 start back) 0 → NeverSlidesBack before14 start → ⊥
+slid-back : SlidBack
 unfolding winsAllTheSame
-refutes e f o h =
-    let l = h (votes 2 2 ∷ []) back 0 (omega arith) o .not-lower in
-    omega (arith, l, ap (λ (p : ℕ × ℕ). p .1) e, ap (λ (p : ℕ × ℕ). p .1) f)
-
--- the same of the worlds
-record Computed : Type 0 where
-  bound : seen halfway ≡ (0, 1)
-  by-a-win : seen won ≡ (3, 2)
-  told : answerTo halfway ≡ Won 1
-  by-a-claim : seen (left (heard won 1 3)) ≡ (1, 3)
-  risen : seen returned ≡ (0, 5)
-  stays : seen (after returned (votes 2 2)) ≡ (0, 5)
-  told-none : answerTo returned ≡ Won 0
-  master : masterAt (after returned (votes 2 2) .node) 3 ≡ true
-  epoch : epochOf (after returned (votes 2 2)) 3 ≡ 2
-  fallen : seen (before14 returned (votes 2 2)) ≡ (3, 2)
-  owned : Owned returned 0
-
-computed : Computed
-unfolding every mapFrom countFrom firstFrom wordOf wordsFrom gathered withRecords withCurrent withClock withElection arraysWhole boundsKept before idsAscend recordsSound electionSound marksAscend marksSound ownClear sound freshNode isDigit digit allDigits byteAt numberAt character hex bytesOf frameOf encode isBeyond frameRefusals refusals failed knownConfigs fate claim withSender bumped heartbeat openings.opening opens promoted acked onKind onFrame ones start
-computed = record { bound = refl; by-a-win = refl; told = refl; by-a-claim = refl; risen = refl; stays = refl; told-none = refl; master = refl; epoch = refl; fallen = refl; owned = omega arith }
-
-pub examples : Examples
-unfolding wins winsAllTheSame
-examples = record {
-  twice = record {
-    bound = ap seen is-halfway ∙ computed .bound;
-    by-a-win = ap (λ (w : World). seen (after w (votes 2 2))) is-halfway ∙ computed .by-a-win;
-    told = ap answerTo is-halfway ∙ computed .told;
-    by-a-claim = ap seen is-beaten ∙ computed .by-a-claim;
-  };
-  nothing = record {
-    risen = ap seen is-back ∙ computed .risen;
-    stays = ap (λ (w : World). seen (after w (votes 2 2))) is-back ∙ computed .stays;
-    told = ap answerTo is-back ∙ computed .told-none;
-    master = ap (λ (w : World). masterAt (after w (votes 2 2) .node) 3) is-back ∙ computed .master;
-    epoch = ap (λ (w : World). epochOf (after w (votes 2 2)) 3) is-back ∙ computed .epoch;
-  };
-  slid-back = record { risen = risen; fallen = fallen; refuted = refutes risen fallen (subst (λ (w : World). Owned w 0) (sym was-back) (computed .owned)) };
+slid-back = record {
+  risen = risen;
+  fallen = fallen;
+  refuted = λ h.
+      let owned = subst (λ (w : World). Owned w 0) (sym was-back) (computed .owned) in
+      let l = h (votes 2 2 ∷ []) back 0 (omega arith) owned .not-lower in
+      omega (arith, l, ap (λ (p : ℕ × ℕ). p .1) risen, ap (λ (p : ℕ × ℕ). p .1) fallen);
 }
   where
-    risen : slot0 before14 back ≡ (0, 5)
-    risen = ap seen was-back ∙ computed .risen
+    risen : slot0 (run before14 start back) ≡ (0, 5)
+    risen = ap slot0 was-back ∙ computed .risen
 
-    fallen : slot0 before14 winsAllTheSame ≡ (3, 2)
-    fallen = ap (λ (w : World). seen (before14 w (votes 2 2))) was-back ∙ computed .fallen
+    fallen : slot0 (before14 (run before14 start back) (votes 2 2)) ≡ (3, 2)
+    fallen = ap (λ (w : World). slot0 (before14 w (votes 2 2))) was-back ∙ computed .fallen
+
+pub examples : Examples
+examples = record { twice = twice; nothing = nothing; slid-back = slid-back }

@@ -7,19 +7,18 @@ use Prim.Native.Nat.{ℕ, _<_}
 use native.Mathlib.Omega.{arith}
 use lib.ListN.{length}
 use lib.Seq.{getD-set-same}
-use borrow.Author.Tests.{lt-ltb}
 use Rattle.tables.specs.Sizes.{slotCount}
 use Rattle.tables.proofs.Checks.{never}
 use Rattle.tables.proofs.Walks.{mapped-at}
-use Rattle.state.specs.Node.{blank, recordAt, isMaster, roleAt, followed}
+use Rattle.state.specs.Node.{blank, recordAt, isMaster}
 use Rattle.state.specs.Changes.{withRecords, withElection}
 use Rattle.state.specs.declared.Node.{Node}
 use Rattle.state.specs.declared.Record.{Record}
-use Rattle.state.specs.declared.Role.{Role}
 use Rattle.soundness.specs.Sound.{sound}
-use Rattle.soundness.proofs.Facts.{all-records, few-nodes, me-listed, followed-listed}
-use Rattle.wins.specs.Wins.{passes, winner, promoted, won}
-use Rattle.wins.proofs.Passing.{from-old}
+use Rattle.soundness.proofs.Facts.{all-records, few-nodes, me-listed}
+use Rattle.wins.specs.Wins.{yields, winner, promoted, won}
+use Rattle.wins.proofs.Passing.{from-old-master}
+use Rattle.acks.proofs.Laws.{yielded-by-another}
 use Rattle.monotone.specs.Runs.{World}
 use Rattle.monotone.specs.NeverSlidesBack.{owner, Owned, PassesUp}
 use Rattle.monotone.proofs.Onward.{ReplicaAtZero, Moves, world, Rising, rising-at, zero-at}
@@ -31,16 +30,6 @@ module _ (n : Node) (slots reports : List ℕ) (epoch : ℕ) (h : sound n ≡ tr
 
   abbrev after : World
   after = let x = won n slots epoch in world (x .outcome .node) (x .slots) reports
-
-  -- whose slots pass
-  abbrev role : Role
-  role = roleAt n (n .me)
-
-  abbrev such : ℕ → Bool
-  such = passes role (recordAt n (followed role) .config) epoch
-
-  own : recordAt n (n .me) .role ≡ role
-  own = rw (lt-ltb (n .me) (n .size) (me-listed n h))
 
   win-rising : Rising n (promoted epoch n)
   unfolding promoted withElection
@@ -59,25 +48,21 @@ module _ (n : Node) (slots reports : List ℕ) (epoch : ℕ) (h : sound n ≡ tr
   win-config = ap (λ (r : Record). r .config) (getD-set-same (n .records) (n .me) (winner epoch (recordAt n (n .me))) blank (omega (arith, me-listed n h, all-records n h, few-nodes n h)))
 
   module _ (s : ℕ) (l : s < length slots) (o : Owned before s) where
-    entry : owner after s ≡ cond (such (owner before s)) (n .me) (owner before s)
-    entry = mapped-at (λ k o. cond (such o) (n .me) o) 0 slots s 0 0 l
+    entry : owner after s ≡ cond (yields n epoch (owner before s)) (n .me) (owner before s)
+    entry = mapped-at (λ k o. cond (yields n epoch o) (n .me) o) 0 slots s 0 0 l
 
     -- the old master is another, below the election's epoch
-    passes-up : such (owner before s) ≡ true → owner after s ≡ n .me → PassesUp before after s
-    passes-up e g =
-        let f = from-old role (recordAt n (followed role) .config) epoch (owner before s) e in
-        let old : followed role ≡ owner before s = ap followed (f .0) in
-        let below : recordAt n (owner before s) .config < epoch = rw old at f .1 in
-        record {
-          another = λ q. followed-listed n h (n .me) (owner before s) (me-listed n h) (own ∙ f .0) .1 (sym q ∙ g);
-          owned = rw (g, win-size) (me-listed n h);
-          above = rw (g, win-config) below;
-        }
+    passes-up : yields n epoch (owner before s) ≡ true → owner after s ≡ n .me → PassesUp before after s
+    passes-up e g = record {
+      another = λ q. yielded-by-another n epoch h (owner before s) e (sym q ∙ g);
+      owned = rw (g, win-size) (me-listed n h);
+      above = rw (g, win-config) (from-old-master n epoch (owner before s) e .1);
+    }
 
     win-owners : (owner after s ≡ owner before s) ⊎ PassesUp before after s
-    win-owners = by (such (owner before s)) refl entry
+    win-owners = by (yields n epoch (owner before s)) refl entry
       where
-        by : (b : Bool) → such (owner before s) ≡ b → owner after s ≡ cond b (n .me) (owner before s) → (owner after s ≡ owner before s) ⊎ PassesUp before after s
+        by : (b : Bool) → yields n epoch (owner before s) ≡ b → owner after s ≡ cond b (n .me) (owner before s) → (owner after s ≡ owner before s) ⊎ PassesUp before after s
         by true e g = inr (passes-up e g)
         by false e g = inl g
 

@@ -16,7 +16,7 @@ use Rattle.frames.specs.declared.Kind.{Kind}
 use Rattle.frames.specs.declared.Kind.the-variants.{Heartbeat, Fail, Ack}
 use Rattle.node.specs.Calls.{Tables, Call, frame, opening, outcome}
 use Rattle.safety.specs.Examples.{roster}
-use Rattle.monotone.specs.Runs.{World, Step, after, run, fresh}
+use Rattle.monotone.specs.Runs.{World, after, run, fresh}
 use Rattle.monotone.specs.NeverSlidesBack.{epochOf, owner, ownersEpoch, NeverSlidesBack}
 use Rattle.monotone.specs.Before.{before14}
 
@@ -66,33 +66,33 @@ winsAllTheSame = votes 2 2 ∷ back
 -- ---- what comes of them
 
 -- who owns slot 0, and the known configEpoch of that node
-abbrev pub slot0 : Step → List Call → ℕ × ℕ
-slot0 step cs = let w = run step start cs in (owner w 0, ownersEpoch w 0)
+abbrev pub slot0 : World → ℕ × ℕ
+slot0 w = (owner w 0, ownersEpoch w 0)
 
--- what a call is answered after others
-abbrev pub answerTo : Call → List Call → Answer
-answerTo c cs = let w = run after start cs in outcome (w .node) (w .tables) c .answer
+-- what the vote is answered that wins
+abbrev pub lastAnswer : World → Answer
+lastAnswer w = outcome (w .node) (w .tables) (votes 2 2) .answer
 
 -- each time the slot passes, it does so to a greater epoch
 pub record PassesTwice : Type 0 where
-  pub bound : slot0 after opened ≡ (0, 1)
-  pub by-a-win : slot0 after wins ≡ (3, 2)
-  pub told : answerTo (votes 2 2) opened ≡ Won 1
-  pub by-a-claim : slot0 after beaten ≡ (1, 3)
+  pub bound : slot0 (run after start opened) ≡ (0, 1)
+  pub by-a-win : slot0 (run after start wins) ≡ (3, 2)
+  pub told : lastAnswer (run after start opened) ≡ Won 1
+  pub by-a-claim : slot0 (run after start beaten) ≡ (1, 3)
 
 -- the slot stays, and its owner's epoch, which a winner of epoch 2 does not reach
 pub record NothingPasses : Type 0 where
-  pub risen : slot0 after back ≡ (0, 5)
-  pub stays : slot0 after winsAllTheSame ≡ (0, 5)
-  pub told : answerTo (votes 2 2) back ≡ Won 0
+  pub risen : slot0 (run after start back) ≡ (0, 5)
+  pub stays : slot0 (run after start winsAllTheSame) ≡ (0, 5)
+  pub told : lastAnswer (run after start back) ≡ Won 0
   -- the winner is a master all the same
   pub master : masterAt (run after start winsAllTheSame .node) 3 ≡ true
   pub epoch : epochOf (run after start winsAllTheSame) 3 ≡ 2
 
 -- before [14] it passed all the same, so that the theorem does not hold of that step
 pub record SlidBack : Type 0 where
-  pub risen : slot0 before14 back ≡ (0, 5)
-  pub fallen : slot0 before14 winsAllTheSame ≡ (3, 2)
+  pub risen : slot0 (run before14 start back) ≡ (0, 5)
+  pub fallen : slot0 (run before14 start winsAllTheSame) ≡ (3, 2)
   pub refuted : NeverSlidesBack before14 start → ⊥
 
 pub record Examples : Type 0 where

@@ -8,8 +8,8 @@ use native.Mathlib.Nat.{zero-add}
 use native.Mathlib.Omega.{arith}
 use lib.Dec.{eqb, leb}
 use lib.ListN.{length, getD}
-use borrow.Author.Tests.{eqb-true, eq-eqb, leb-true, lt-ltb}
-use Rattle.tables.specs.Sizes.{slotCount, reportCount}
+use borrow.Author.Tests.{eq-eqb, leb-true}
+use Rattle.tables.specs.Sizes.{slotCount}
 use Rattle.tables.specs.Checks.{checked, allOf}
 use Rattle.tables.specs.Lists.{firstAt, changedFrom}
 use Rattle.tables.proofs.Checks.{part}
@@ -18,7 +18,7 @@ use Rattle.answers.specs.Answers.{counts, passed, said, number}
 use Rattle.answers.specs.declared.Answer.{Answer}
 use Rattle.answers.specs.declared.Answer.the-variants.{Granted, Won}
 use Rattle.answers.proofs.Checks.{by-check, past, testFor}
-use Rattle.state.specs.Node.{recordAt, roleAt, followed, listed}
+use Rattle.state.specs.Node.{listed}
 use Rattle.state.specs.Changes.{withRecords, withClock, withCurrent, arrived}
 use Rattle.state.specs.Outcomes.{Slotted, Stepped}
 use Rattle.state.specs.declared.Node.{Node}
@@ -32,8 +32,8 @@ use Rattle.frames.specs.declared.Kind.the-variants.{Heartbeat, Report, Fail, Re
 use Rattle.frames.specs.declared.Frame.{Frame}
 use Rattle.frames.specs.declared.Decoded.{Decoded}
 use Rattle.frames.specs.declared.Decoded.the-variants.{NotAFrame, Good}
-use Rattle.refusals.specs.Refusals.{bothLong, refusals, turnsAway}
-use Rattle.refusals.proofs.Admitted.{Admitted, admitted, passes, all-turn-away}
+use Rattle.refusals.specs.Refusals.{refusals, turnsAway}
+use Rattle.refusals.proofs.Admitted.{Admitted, slots-whole, admitted, passes, all-turn-away}
 use Rattle.records.specs.Known.{knownConfigs}
 use Rattle.ownership.specs.Claim.{claimant}
 use Rattle.ownership.proofs.Owners.{unowned-goes, unclaimed-stays, claim-laws}
@@ -42,9 +42,8 @@ use Rattle.heartbeats.proofs.Frame.{slot-passes-exactly-when}
 use Rattle.votes.specs.Votes.{requested}
 use Rattle.votes.proofs.Steps.{request-cases}
 use Rattle.votes.proofs.Exactly.{granted-exactly}
-use Rattle.wins.specs.Wins as wins
-use Rattle.wins.specs.Wins.{handedOver}
-use Rattle.wins.proofs.Passing.{from-old}
+use Rattle.wins.specs.Wins.{yields, handedOver}
+use Rattle.wins.proofs.Passing.{from-old-master, yields-if}
 use Rattle.acks.specs.Acks.{acked}
 use Rattle.acks.specs.Counts.{Wins}
 use Rattle.acks.proofs.Steps.{ack-cases}
@@ -145,9 +144,6 @@ module _ (n : Node) (slots reports bitmap : List ℕ) (f : Frame) where
       (all-turn-away n (length slots) (length reports) (Good f)) (λ a q e. absurd (e q))
       (λ p e. record { goes-in = admitted n (length slots) (length reports) f p; step = refl })
 
-whole : (slots reports : ℕ) → bothLong slots reports ≡ true → slots ≡ slotCount
-whole slots reports h = eqb-true slots slotCount (part 0 (eqb slots slotCount ∷ eqb reports reportCount ∷ []) h)
-
 module _ (n : Node) (slots reports line : List ℕ) (h : Header) (k : Kind) (q : Reads n slots reports line h k) where
   abbrev LineTaken : Type 0
   LineTaken = Taken n slots reports (bitmapOf line) (record { header = h; kind = k }) (onFrame n slots reports line)
@@ -172,7 +168,7 @@ module _ (n : Node) (slots reports line : List ℕ) where
   unfolding onKind withClock withCurrent
   slot-passes-exactly-on-lines h sender q a s l o d =
       let z = zero-taken n slots reports line h (Heartbeat sender Master) q a in
-      let w = whole (length slots) (length reports) (z .goes-in .lengths) in
+      let w = slots-whole (length slots) (length reports) (z .goes-in .lengths) in
       let g = slot-passes-exactly-when (arrived (h .time) (h .epoch) n) slots (bitmapOf line) sender (h .config) s (omega (arith, w, l)) o d in
       let e = ap (λ (x : Stepped). getD (x .slots) s 0) (z .step) in
       record {
@@ -187,7 +183,7 @@ module _ (n : Node) (slots reports line : List ℕ) where
       let z = zero-taken n slots reports line h (Heartbeat sender Master) q a in
       let m = withSender sender Master (h .config) (arrived (h .time) (h .epoch) n) in
       let c = claimant (knownConfigs (m .size) (m .records)) (m .size) sender (h .config) in
-      let w : s < length slots = omega (arith, whole (length slots) (length reports) (z .goes-in .lengths), l) in
+      let w : s < length slots = omega (arith, slots-whole (length slots) (length reports) (z .goes-in .lengths), l) in
       let e = ap (λ (x : Stepped). getD (x .slots) s 0) (z .step) in
       record { if = λ b. e ∙ unowned-goes c (bitmapOf line) slots s w o b; otherwise = λ b. e ∙ unclaimed-stays c (bitmapOf line) slots s w b }
 
@@ -235,13 +231,6 @@ heartbeat-says n slots reports line h sender role q a =
 -- ---- a slot that is won
 
 module _ (n : Node) (slots reports line : List ℕ) (h : Header) (x : Winning n slots reports line h) where
-  abbrev role : Role
-  role = roleAt n (n .me)
-
-  -- does a slot pass, by its owner
-  abbrev goes : ℕ → Bool
-  goes owner = wins.passes role (recordAt n (followed role) .config) (h .epoch) owner
-
   done : LineTaken n slots reports line h (Ack (x .voter) (x .candidate)) (x .ack)
   done = won-taken n slots reports line h (Ack (x .voter) (x .candidate)) (x .ack) (x .answer)
 
@@ -249,34 +238,27 @@ module _ (n : Node) (slots reports line : List ℕ) (h : Header) (x : Winning n 
   unfolding onKind
   win = ack-laws (arrived (h .time) (h .epoch) n) slots (x .voter) (x .candidate) (h .epoch) .wins (ap (λ (y : Stepped). number (y .outcome .answer)) (sym (done .step)) ∙ x .answer)
 
-  table : onFrame n slots reports line .slots ≡ handedOver goes (n .me) slots .slots
+  table : onFrame n slots reports line .slots ≡ handedOver (yields n (h .epoch)) (n .me) slots .slots
   unfolding onKind withClock withCurrent
   table = ap (λ (y : Stepped). y .slots) (done .step) ∙ win .slots-pass
 
-  yields : (s : ℕ) → goes (getD slots s 0) ≡ true → Yields n slots reports line (h .epoch) s
-  yields s e =
-      let p = from-old role (recordAt n (followed role) .config) (h .epoch) (getD slots s 0) e in
-      record { old-master = p .0; below = subst (λ (r : Role). recordAt n (followed r) .config < h .epoch) (p .0) (p .1) }
-
-  goes-if : (s : ℕ) → Yields n slots reports line (h .epoch) s → goes (getD slots s 0) ≡ true
-  goes-if s y =
-      ap (λ (r : Role). wins.passes r (recordAt n (followed r) .config) (h .epoch) (getD slots s 0)) (y .old-master)
-      ∙ rw (lt-ltb (recordAt n (getD slots s 0) .config) (h .epoch) (y .below)) (eq-eqb (getD slots s 0) (getD slots s 0) refl)
+  yielded : (s : ℕ) → yields n (h .epoch) (getD slots s 0) ≡ true → Yields n slots reports line (h .epoch) s
+  yielded s e = let p = from-old-master n (h .epoch) (getD slots s 0) e in record { old-master = p .0; below = p .1 }
 
   slot-won : (s : ℕ) → s < slotCount → (getD slots s 0 ≡ n .me → ⊥) → SlotWon n slots reports line (h .epoch) s
   slot-won s l d = record {
-    if = λ y. entry ∙ rw (goes-if s y);
-    only-if = λ e. by (goes (getD slots s 0)) refl (λ g. yields s g) (λ g. absurd (d (sym (entry ∙ rw g) ∙ e)));
-    otherwise = λ f. entry ∙ by (goes (getD slots s 0)) refl (λ g. absurd (f (yields s g))) (λ g. rw g);
+    if = λ y. entry ∙ rw (yields-if n (h .epoch) (getD slots s 0) (y .old-master) (y .below));
+    only-if = λ e. by (yields n (h .epoch) (getD slots s 0)) refl (λ g. yielded s g) (λ g. absurd (d (sym (entry ∙ rw g) ∙ e)));
+    otherwise = λ f. entry ∙ by (yields n (h .epoch) (getD slots s 0)) refl (λ g. absurd (f (yielded s g))) (λ g. rw g);
   }
     where
       w : length slots ≡ slotCount
-      w = whole (length slots) (length reports) (done .goes-in .lengths)
+      w = slots-whole (length slots) (length reports) (done .goes-in .lengths)
 
-      entry : getD (onFrame n slots reports line .slots) s 0 ≡ cond (goes (getD slots s 0)) (n .me) (getD slots s 0)
-      entry = ap (λ (t : List ℕ). getD t s 0) table ∙ mapped-at (λ s owner. cond (goes owner) (n .me) owner) 0 slots s 0 0 (omega (arith, w, l))
+      entry : getD (onFrame n slots reports line .slots) s 0 ≡ cond (yields n (h .epoch) (getD slots s 0)) (n .me) (getD slots s 0)
+      entry = ap (λ (t : List ℕ). getD t s 0) table ∙ mapped-at (λ s owner. cond (yields n (h .epoch) owner) (n .me) owner) 0 slots s 0 0 (omega (arith, w, l))
 
-      by : {A : Type 0} (b : Bool) → goes (getD slots s 0) ≡ b → (goes (getD slots s 0) ≡ true → A) → (goes (getD slots s 0) ≡ false → A) → A
+      by : {A : Type 0} (b : Bool) → yields n (h .epoch) (getD slots s 0) ≡ b → (yields n (h .epoch) (getD slots s 0) ≡ true → A) → (yields n (h .epoch) (getD slots s 0) ≡ false → A) → A
       by true e f g = f e
       by false e f g = g e
 

@@ -4,11 +4,11 @@ use mathlib.Core.Path.{_≡_, refl}
 use mathlib.Core.Bool.{Bool, true, false, not}
 use mathlib.Core.List.{List, [], _∷_}
 use Prim.Native.Nat.{ℕ, _≤_}
-use lib.Dec.{ltb, leb}
-use borrow.Author.Tests.{not-false, ltb-false, leb-false}
-use Rattle.tables.specs.Sizes.{top, timeEnd}
+use lib.Dec.{eqb, ltb, leb}
+use borrow.Author.Tests.{eqb-true, not-false, ltb-false, leb-false}
+use Rattle.tables.specs.Sizes.{slotCount, reportCount, top, timeEnd}
 use Rattle.tables.specs.Checks.{checked}
-use Rattle.tables.proofs.Checks.{none}
+use Rattle.tables.proofs.Checks.{none, part}
 use Rattle.answers.specs.declared.Check.the-variants.{Passed, Refused}
 use Rattle.answers.proofs.Checks.{onCheck, testFor, refusalsPass, unrefused, in-two}
 use Rattle.state.specs.Changes.{arrived}
@@ -16,7 +16,6 @@ use Rattle.state.specs.declared.Node.{Node}
 use Rattle.entry.specs.Entry.{entryChecks}
 use Rattle.soundness.specs.Sound.{sound}
 use Rattle.soundness.proofs.Kept.{arrived-sound}
-use Rattle.frames.specs.declared.Header.{Header}
 use Rattle.frames.specs.declared.Frame.{Frame}
 use Rattle.frames.specs.declared.Decoded.{Decoded}
 use Rattle.frames.specs.declared.Decoded.the-variants.{NotAFrame, Good}
@@ -30,6 +29,10 @@ pub record Admitted (n : Node) (slots reports : ℕ) (f : Frame) : Type 0 where
   pub not-this-node : namesThisNode (n .me) (f .kind) ≡ false
   pub within-bounds : isBeyond (f .header) ≡ false
   pub not-before : ltb (f .header .time) (n .clock) ≡ false
+
+-- then the slot table is whole
+pub slots-whole : (slots reports : ℕ) → bothLong slots reports ≡ true → slots ≡ slotCount
+slots-whole slots reports h = eqb-true slots slotCount (part 0 (eqb slots slotCount ∷ eqb reports reportCount ∷ []) h)
 
 module _ (n : Node) (slots reports : ℕ) where
   pub admitted : (f : Frame) → ((a : ℕ) → testFor a (refusals n slots reports (Good f)) ≡ false) → Admitted n slots reports f

@@ -1,12 +1,12 @@
 -- Which slots pass at a win.
-use mathlib.Core.Path.{_≡_, refl, sym, ap, _∙_}
+use mathlib.Core.Path.{_≡_, refl, sym, ap, subst, _∙_}
 use mathlib.Core.Bool.{Bool, true, false, not, cond, _&&_}
 use mathlib.Core.List.{List}
 use Prim.Native.Nat.{ℕ, _≤_, _<_}
 use native.Mathlib.Nat.{zero-add}
 use lib.Dec.{eqb, ltb}
 use lib.ListN.{length, getD, set}
-use borrow.Author.Tests.{eq-eqb, ne-eqb, eqb-true, le-ltb, ltb-true}
+use borrow.Author.Tests.{eq-eqb, ne-eqb, eqb-true, lt-ltb, le-ltb, ltb-true}
 use Rattle.tables.specs.Lists.{changedFrom}
 use Rattle.tables.specs.Sizes.{nodeRoom}
 use Rattle.tables.proofs.Checks.{never}
@@ -22,7 +22,7 @@ use Rattle.state.specs.declared.Role.the-variants.{Master, Replica}
 use Rattle.state.specs.declared.Election.the-variants.{Closed}
 use Rattle.records.specs.Known.{inRoom, placeOf}
 use Rattle.records.proofs.Known.{known-there, changed-there}
-use Rattle.wins.specs.Wins.{passes, Passing, handedOver, passing, winner, promoted}
+use Rattle.wins.specs.Wins.{passes, Passing, handedOver, yields, passing, winner, promoted}
 
 abbrev pub passingOf : ℕ → List ℕ → Passing
 passingOf count slots = record { count = count; slots = slots }
@@ -37,13 +37,26 @@ none-pass Master config epoch owner h = refl
 none-pass (Replica old) config epoch owner h = rw (le-ltb config epoch h)
 
 -- a slot passes from the old master alone, and only if that one is below the election's epoch
-pub from-old : (role : Role) (config epoch owner : ℕ) → passes role config epoch owner ≡ true → (role ≡ Replica owner) × (config < epoch)
+from-old : (role : Role) (config epoch owner : ℕ) → passes role config epoch owner ≡ true → (role ≡ Replica owner) × (config < epoch)
 from-old Master config epoch owner e = never (sym e)
 from-old (Replica old) config epoch owner e = by (ltb config epoch) refl e
   where
     by : (b : Bool) → ltb config epoch ≡ b → (b && eqb owner old) ≡ true → (Replica old ≡ Replica owner) × (config < epoch)
     by true l q = (ap Replica (sym (eqb-true owner old q)), ltb-true config epoch l)
     by false l q = never (sym q)
+
+-- the same by what this node knows, both ways
+module _ (n : Node) (epoch owner : ℕ) where
+  pub from-old-master : yields n epoch owner ≡ true → (roleAt n (n .me) ≡ Replica owner) × (recordAt n owner .config < epoch)
+  from-old-master e =
+      let role = roleAt n (n .me) in
+      let p = from-old role (recordAt n (followed role) .config) epoch owner e in
+      (p .0, subst (λ (r : Role). recordAt n (followed r) .config < epoch) (p .0) (p .1))
+
+  pub yields-if : roleAt n (n .me) ≡ Replica owner → recordAt n owner .config < epoch → yields n epoch owner ≡ true
+  yields-if e l =
+      ap (λ (r : Role). passes r (recordAt n (followed r) .config) epoch owner) e
+      ∙ rw (lt-ltb (recordAt n owner .config) epoch l) (eq-eqb owner owner refl)
 
 -- where no owner that is such is the new one, those handed over are the entries that changed
 pub handed-over-changed : (such : ℕ → Bool) (new : ℕ) (slots : List ℕ) → ((owner : ℕ) → such owner ≡ true → owner ≡ new → ⊥)

@@ -29,11 +29,14 @@ pub record Passing : Type 0 where
 abbrev pub handedOver : (ℕ → Bool) → ℕ → List ℕ → Passing
 handedOver such new slots = record { count = countAt (λ s owner. such owner) slots; slots = mapAt (λ s owner. cond (such owner) new owner) slots }
 
--- what passes to this node if it wins an election of that epoch
-abbrev pub passing : Node → List ℕ → ℕ → Passing
-passing n slots epoch =
+-- does an owner yield its slots to this node, if it wins an election of that epoch
+abbrev pub yields : Node → ℕ → ℕ → Bool
+yields n epoch owner =
     let role = roleAt n (n .me) in
-    handedOver (passes role (recordAt n (followed role) .config) epoch) (n .me) slots
+    passes role (recordAt n (followed role) .config) epoch owner
+
+abbrev pub passing : Node → List ℕ → ℕ → Passing
+passing n slots epoch = handedOver (yields n epoch) (n .me) slots
 
 -- a master with the election's epoch as its configEpoch, and the election is closed
 abbrev pub winner : ℕ → Record → Record
