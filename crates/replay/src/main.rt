@@ -47,13 +47,12 @@ const PATH: usize = 4096;
 
 // Node k after a line that is no call.
 fn listed(seat: Seat, k: usize, call: Call) -> Seat {
-    let node = seat.node;
     let said = call.numbers;
     let form = call.form;
     match form {
         calls::ROSTER => seats::newcomer(said[1], k),
-        calls::REPLICA => seats::seated(seats::follow(node, said[1], said[3]), seat),
-        calls::TIMEOUT => seats::seated(seats::wait(node, said[2]), seat),
+        calls::REPLICA => seats::seated(seats::follow(seat.node, said[1], said[3]), seat),
+        calls::TIMEOUT => seats::seated(seats::wait(seat.node, said[2]), seat),
         _ => seat,
     }
 }
@@ -157,12 +156,10 @@ fn do_frame(seat: Seat, slots: &mut [u16], reports: &mut [u64], line: &[u8]) -> 
     let mut room = [0u8; 8192];
     let n = calls::frame(line, &mut room);
     let frame = sources::part(&room, 0, n);
-    let node = seat.node;
     let named = arguments::named(frame);
-    let outcome = node::frame(node, slots, reports, frame);
-    let after = outcome.node;
+    let outcome = node::frame(seat.node, slots, reports, frame);
     let answer = outcome.answer;
-    answered(seats::seated(after, seat), answer, named)
+    answered(seats::seated(outcome.node, seat), answer, named)
 }
 
 // The node that a line of a feed names, if the line ends in this piece.
@@ -204,10 +201,8 @@ fn do_piece(
     let mut room = [0u8; scraps::ROOM];
     let n = arguments::piece(calls::word(line, 2), &mut room);
     let piece = sources::part(&room, handed, n);
-    let node = seat.node;
-    let kept = seat.kept;
-    let named = named_in(kept, piece);
-    let outcome = feed::feed(node, slots, reports, kept, piece);
+    let named = named_in(seat.kept, piece);
+    let outcome = feed::feed(seat.node, slots, reports, seat.kept, piece);
     let used = outcome.used;
     let mut done = fed(outcome, named);
     done.handed = handed_to(sources::further(handed, used), n);
@@ -216,20 +211,20 @@ fn do_piece(
 
 // A call that writes no table. Where a key is asked for the node stays as it is.
 fn do_other(seat: Seat, slots: &[u16], line: &[u8], call: Call) -> Done {
-    let node = seat.node;
     if call.form < calls::KEY {
-        let outcome = called(node, slots, call);
-        let after = outcome.node;
+        let outcome = called(seat.node, slots, call);
         let answer = outcome.answer;
-        return answered(seats::seated(after, seat), answer, 0);
+        return answered(seats::seated(outcome.node, seat), answer, 0);
     }
-    finished(seat, tellings::of_redirect(routed(node, slots, line, call)))
+    finished(
+        seat,
+        tellings::of_redirect(routed(seat.node, slots, line, call)),
+    )
 }
 
 // A node at the end, and how many slots it owns.
 fn last_seen(seat: Seat, slots: &[u16], k: usize) -> Done {
-    let node = seat.node;
-    let known = seats::own(node);
+    let known = seats::own(seat.node);
     let role = known.role;
     let mut done = finished(seat, tellings::of_role(k as u64, role));
     done.slots = seats::owned(slots, seats::short(k as u64));
@@ -330,8 +325,7 @@ fn take_turn(
         call,
         run.handed,
     );
-    let before = seat.node;
-    let told = telling(source.count, k, before, done, call.form);
+    let told = telling(source.count, k, seat.node, done, call.form);
     let at = tellings::put_told(out, run.at, told);
     let after = done.seat;
     Turn {
