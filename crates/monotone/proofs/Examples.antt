@@ -32,10 +32,10 @@ use Rattle.acks.specs.Acks.{promoted, acked}
 use Rattle.kinds.specs.Kinds.{onKind}
 use Rattle.node.specs.Step.{onFrame}
 use Rattle.node.specs.Calls.{Call, opening}
-use Rattle.monotone.specs.Runs.{World, after, run}
-use Rattle.monotone.specs.NeverSlidesBack.{epochOf, Owned}
+use Rattle.monotone.specs.Runs.{World, Step, after, run}
+use Rattle.monotone.specs.NeverSlidesBack.{epochOf, Owned, NeverSlidesBack}
 use Rattle.monotone.specs.Before.{before14}
-use Rattle.monotone.specs.Examples.{start, claims, fails, votes, opened, wins, beaten, back, winsAllTheSame, slot0, lastAnswer, PassesTwice, NothingPasses, SlidBack, Examples}
+use Rattle.monotone.specs.Examples.{start, claims, fails, votes, opened, wins, beaten, back, winsAllTheSame, slot0, lastAnswer, PassesTwice, NothingPasses, SlidBack, restoredAs, restored, NotFromAnyState, Examples}
 use Rattle.monotone.proofs.Claimed.{Heard, heard, Unwon, unwon, after-claim, before-claim, first-bound}
 use Rattle.monotone.proofs.Onward.{left}
 
@@ -80,6 +80,10 @@ record Computed : Type 0 where
   master : masterAt (wonAllTheSame .node) 3 ≡ true
   epoch : epochOf wonAllTheSame 3 ≡ 2
   fallen : slot0 (before14 returned (votes 2 2)) ≡ (3, 2)
+  restored-sound : sound (restoredAs halfway .node) ≡ true
+  restored-owns : slot0 (restoredAs halfway) ≡ (3, 5)
+  restored-owned : Owned (restoredAs halfway) 0
+  restored-falls : slot0 (after (restoredAs halfway) (votes 2 2)) ≡ (3, 2)
 
 computed : Computed
 unfolding every mapFrom countFrom firstFrom wordOf wordsFrom gathered withRecords withCurrent withClock withElection arraysWhole boundsKept before idsAscend recordsSound electionSound marksAscend marksSound ownClear sound freshNode isDigit digit allDigits byteAt numberAt character hex bytesOf frameOf encode isBeyond frameRefusals refusals failed knownConfigs fate claim withSender bumped heartbeat openings.opening opens promoted acked onKind onFrame ones start
@@ -101,6 +105,10 @@ computed = record {
   master = refl;
   epoch = refl;
   fallen = refl;
+  restored-sound = refl;
+  restored-owns = refl;
+  restored-owned = omega arith;
+  restored-falls = refl;
 }
 
 -- ---- the lists lead to them
@@ -162,23 +170,41 @@ nothing = record {
   epoch = ap (λ (w : World). epochOf (after w (votes 2 2)) 3) is-back ∙ computed .epoch;
 }
 
--- 5 is not at most 2
+-- a list by which the last vote takes the epoch from 5 to 2
+refutes : (step : Step) (w : World) (cs : List Call) (k j : ℕ) → Owned (run step w cs) 0 → slot0 (run step w cs) ≡ (k, 5) → slot0 (step (run step w cs) (votes 2 2)) ≡ (j, 2) → NeverSlidesBack step w → ⊥
+refutes step w cs k j o e f h =
+    let l = h (votes 2 2 ∷ []) cs 0 (omega arith) o .not-lower in
+    omega (arith, l, ap (λ (p : ℕ × ℕ). p .1) e, ap (λ (p : ℕ × ℕ). p .1) f)
+
 slid-back : SlidBack
 unfolding winsAllTheSame
-slid-back = record {
-  risen = risen;
-  fallen = fallen;
-  refuted = λ h.
-      let owned = subst (λ (w : World). Owned w 0) (sym was-back) (computed .owned) in
-      let l = h (votes 2 2 ∷ []) back 0 (omega arith) owned .not-lower in
-      omega (arith, l, ap (λ (p : ℕ × ℕ). p .1) risen, ap (λ (p : ℕ × ℕ). p .1) fallen);
-}
+slid-back = record { risen = risen; fallen = fallen; refuted = refutes before14 start back 0 3 owned risen fallen }
   where
+    owned : Owned (run before14 start back) 0
+    owned = subst (λ (w : World). Owned w 0) (sym was-back) (computed .owned)
+
     risen : slot0 (run before14 start back) ≡ (0, 5)
     risen = ap slot0 was-back ∙ computed .risen
 
     fallen : slot0 (before14 (run before14 start back) (votes 2 2)) ≡ (3, 2)
     fallen = ap (λ (w : World). slot0 (before14 w (votes 2 2))) was-back ∙ computed .fallen
 
+not-from-any-state : NotFromAnyState
+not-from-any-state = record {
+  is-sound = ap (λ (w : World). sound (restoredAs w .node)) is-halfway ∙ computed .restored-sound;
+  owns = owns;
+  fallen = fallen;
+  refuted = refutes after restored [] 3 3 owned owns fallen;
+}
+  where
+    owned : Owned restored 0
+    owned = subst (λ (w : World). Owned (restoredAs w) 0) (sym is-halfway) (computed .restored-owned)
+
+    owns : slot0 restored ≡ (3, 5)
+    owns = ap (λ (w : World). slot0 (restoredAs w)) is-halfway ∙ computed .restored-owns
+
+    fallen : slot0 (after restored (votes 2 2)) ≡ (3, 2)
+    fallen = ap (λ (w : World). slot0 (after (restoredAs w) (votes 2 2))) is-halfway ∙ computed .restored-falls
+
 pub examples : Examples
-examples = record { twice = twice; nothing = nothing; slid-back = slid-back }
+examples = record { twice = twice; nothing = nothing; slid-back = slid-back; not-from-any-state = not-from-any-state }

@@ -1,5 +1,6 @@
--- Computed lists: a slot passes twice, by a win and by a claim, each time to a greater configEpoch; and a win whose old master
--- rose after the opening, by which nothing passes, and by which ownership slid back before [14]. This node is node 3 of the
+-- Computed lists: a slot passes twice, by a win and by a claim, each time to a greater configEpoch; a win whose old master rose
+-- after the opening, by which nothing passes, and by which ownership slid back before [14]; and one from a state that no list
+-- leads to. This node is node 3 of the
 -- cases of document 01, a replica of node 0; every time is 0. The latest call comes first.
 use Prim.Native.Nat.{ℕ}
 use mathlib.Core.Path.{_≡_}
@@ -10,7 +11,9 @@ use Rattle.tables.specs.Sizes.{slotCount, reportCount, unowned}
 use Rattle.answers.specs.declared.Answer.{Answer}
 use Rattle.answers.specs.declared.Answer.the-variants.{Won}
 use Rattle.state.specs.Node.{masterAt}
+use Rattle.state.specs.Changes.{withConfig, withCurrent, onRecord}
 use Rattle.state.specs.declared.Role.the-variants.{Master}
+use Rattle.soundness.specs.Sound.{sound}
 use Rattle.frames.specs.Lines.{encode}
 use Rattle.frames.specs.declared.Kind.{Kind}
 use Rattle.frames.specs.declared.Kind.the-variants.{Heartbeat, Fail, Ack}
@@ -95,7 +98,26 @@ pub record SlidBack : Type 0 where
   pub fallen : slot0 (run before14 start winsAllTheSame) ≡ (3, 2)
   pub refuted : NeverSlidesBack before14 start → ⊥
 
+-- A state that was restored may be any sound one, as this: before the last vote this node, a replica, is said to have
+-- configEpoch 5 and to own the slot
+abbrev pub restoredAs : World → World
+restoredAs w = record {
+  node = withCurrent 5 (onRecord 3 (withConfig 5) (w .node));
+  tables = record { slots = 3 ∷ replicate 16383 unowned; reports = w .tables .reports };
+}
+
+abbrev pub restored : World
+restored = restoredAs (run after start opened)
+
+-- the vote wins epoch 2, and its own epoch falls: the theorem is about a fresh start
+pub record NotFromAnyState : Type 0 where
+  pub is-sound : sound (restored .node) ≡ true
+  pub owns : slot0 restored ≡ (3, 5)
+  pub fallen : slot0 (run after restored (votes 2 2 ∷ [])) ≡ (3, 2)
+  pub refuted : NeverSlidesBack after restored → ⊥
+
 pub record Examples : Type 0 where
   pub twice : PassesTwice
   pub nothing : NothingPasses
   pub slid-back : SlidBack
+  pub not-from-any-state : NotFromAnyState

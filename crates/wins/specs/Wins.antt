@@ -20,21 +20,22 @@ abbrev pub passes : Role → ℕ → ℕ → ℕ → Bool
 passes Master config epoch owner = false
 passes (Replica old) config epoch owner = ltb config epoch && eqb owner old
 
--- the slots that passed, and the table afterwards
-pub record Passing : Type 0 where
-  pub count : ℕ
-  pub slots : List ℕ
-
--- every slot whose owner is such goes to another one
-abbrev pub handedOver : (ℕ → Bool) → ℕ → List ℕ → Passing
-handedOver such new slots = record { count = countAt (λ s owner. such owner) slots; slots = mapAt (λ s owner. cond (such owner) new owner) slots }
-
 -- does an owner yield its slots to this node, if it wins an election of that epoch
 abbrev pub yields : Node → ℕ → ℕ → Bool
 yields n epoch owner =
     let role = roleAt n (n .me) in
     passes role (recordAt n (followed role) .config) epoch owner
 
+-- how many slots passed, and the table afterwards
+pub record Passing : Type 0 where
+  pub count : ℕ
+  pub slots : List ℕ
+
+-- every slot whose owner is such goes to a new one
+abbrev pub handedOver : (ℕ → Bool) → ℕ → List ℕ → Passing
+handedOver such new slots = record { count = countAt (λ s owner. such owner) slots; slots = mapAt (λ s owner. cond (such owner) new owner) slots }
+
+-- what passes to this node
 abbrev pub passing : Node → List ℕ → ℕ → Passing
 passing n slots epoch = handedOver (yields n epoch) (n .me) slots
 
