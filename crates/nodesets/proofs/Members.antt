@@ -15,8 +15,8 @@ use Rattle.tables.specs.Sets as sets
 use Rattle.tables.specs.Majorities.{Within, Majority}
 use Rattle.tables.proofs.Checks.{never}
 use Rattle.tables.proofs.Sets.{bit-zero, has-add, has-words, words-fit, count-size, majority-counts}
-use Rattle.tables.proofs.Words.{within-members, members-within, below-members, members-below, below-fits, within-fits, add-fits, member-bit}
-use Rattle.nodesets.specs.NodeSets.{wordCount, words, setOf, none, has, added, majority, within, below, gathered}
+use Rattle.tables.proofs.Words.{within-members, members-within, has-both, below-members, members-below, below-fits, within-fits, add-fits, member-bit}
+use Rattle.nodesets.specs.NodeSets.{wordCount, words, setOf, none, has, added, majority, within, both, below, gathered}
 use Rattle.nodesets.specs.Members.{Fits, Members, Parts, Gathers}
 use Rattle.nodesets.specs.declared.NodeSet.{NodeSet}
 
@@ -49,6 +49,9 @@ in-room s v e = member-bit (s .word) v e .0
 
 pub in-added : (s : NodeSet) (v k : ℕ) → v < nodeRoom → has (added s v) k ≡ (has s k || eqb k v)
 in-added s v k h = ap (λ (ws : List ℕ). sets.has ws k) (words-added s v) ∙ has-add (words s) v k (omega arith)
+
+pub in-both : (a b : NodeSet) (k : ℕ) → has (both a b) k ≡ cond (has a k) (has b k) false
+in-both a b k = has-both (words a) (words b) k
 
 pub in-gathered : (p : ℕ → Bool) → Gathers p
 in-gathered p k = ap (λ (ws : List ℕ). sets.has ws k) (words-gathered p) ∙ has-words p 0 wordCount k ∙ rw (zero-add k)
@@ -109,6 +112,7 @@ pub members : (s : NodeSet) → Members s
 members s = record {
   in-room = in-room s;
   one-more = in-added s;
+  in-both = in-both s;
   counted = λ f. sym (count-size (words s) f);
   each-below = λ n f. (below-in s n, in-below s n f);
 }

@@ -3,12 +3,14 @@ use Prim.Native.Nat.{ℕ, _<_}
 use mathlib.Core.Path.{_≡_}
 use mathlib.Core.Logic.{_↔_}
 use mathlib.Core.Bool.{Bool, true, false, _||_, cond}
+use mathlib.Core.List.{[], _∷_}
 use lib.Dec.{eqb, ltb}
 use Rattle.tables.specs.Sizes.{nodeRoom}
 use Rattle.tables.specs.Below as numbers
+use Rattle.tables.specs.Checks.{allOf}
 use Rattle.tables.specs.Sets.{AllFit}
 use Rattle.tables.specs.Majorities.{Within, Majority}
-use Rattle.nodesets.specs.NodeSets.{words, has, added, count, majority, within, below, gathered}
+use Rattle.nodesets.specs.NodeSets.{words, has, added, count, majority, within, both, below, gathered}
 use Rattle.nodesets.specs.declared.NodeSet.{NodeSet}
 
 -- every word fits 64 bits, as in every set of the program
@@ -20,6 +22,8 @@ pub record Members (s : NodeSet) : Type 0 where
   pub in-room : (v : ℕ) → has s v ≡ true → v < nodeRoom
   -- with such a number more, it has the members that it had and that number
   pub one-more : (v k : ℕ) → v < nodeRoom → has (added s v) k ≡ (has s k || eqb k v)
+  -- of it and another, the members of both
+  pub in-both : (other : NodeSet) (k : ℕ) → has (both s other) k ≡ allOf (has s k ∷ has other k ∷ [])
   -- its count of ones is the number of its members
   pub counted : Fits s → count s ≡ numbers.count (has s) nodeRoom
   -- it is below n exactly when each member is

@@ -3,6 +3,7 @@ use Prim.Native.Nat.{ℕ}
 use mathlib.Core.Bool.{Bool}
 use mathlib.Core.List.{List, [], _∷_}
 use lib.ListN.{getD}
+use Rattle.tables.specs.Lists.{occurs}
 use Rattle.tables.specs.Sets as sets
 use Rattle.nodesets.specs.declared.NodeSet.{NodeSet}
 
@@ -38,6 +39,10 @@ majority whole part = sets.majority (words whole) (words part)
 abbrev pub within : NodeSet → NodeSet → Bool
 within part whole = sets.within (words part) (words whole)
 
+-- the members of both
+abbrev pub both : NodeSet → NodeSet → NodeSet
+both a b = setOf (sets.both (words a) (words b))
+
 -- no number from n on is in it
 abbrev pub below : NodeSet → ℕ → Bool
 below s n = sets.below (words s) n
@@ -45,3 +50,7 @@ below s n = sets.below (words s) n
 -- the numbers that pass a test
 unfoldable pub gathered : (ℕ → Bool) → NodeSet
 gathered p = setOf (sets.wordsFrom p 0 wordCount)
+
+-- the numbers that stand in a table
+abbrev pub among : List ℕ → NodeSet
+among entries = gathered (occurs entries)

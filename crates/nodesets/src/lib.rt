@@ -1,6 +1,6 @@
 // Sets of node numbers: who may vote, whose acks were heard, who signals a failure. A set is one word, a bit for each number.
 ghost use mathlib.Core.Path.{_≡_};
-ghost use Rattle.nodesets.specs.NodeSets.{none, has, added, count, majority, within, below};
+ghost use Rattle.nodesets.specs.NodeSets.{none, has, added, count, majority, within, both, among, below};
 use tables::MOST_NODES;
 
 // Number v is bit v, least first.
@@ -53,6 +53,28 @@ pub fn within(part: NodeSet, whole: NodeSet) -> bool
     ensures { λ r. ⌜ r ≡ within part whole ⌝ }
 {
     part.word & whole.word == part.word
+}
+
+// The members of both.
+pub fn both(one: NodeSet, other: NodeSet) -> NodeSet
+    ensures { λ r. ⌜ r ≡ both one other ⌝ }
+{
+    NodeSet {
+        word: one.word & other.word,
+    }
+}
+
+// The numbers that stand in a table, found in one pass; what no roster has is passed over.
+pub fn among(entries: &[u16]) -> NodeSet
+    ensures { λ r. ⌜ r ≡ among (now (entries .entry)) ⌝ }
+{
+    let mut set = none();
+    let mut i: usize = 0;
+    while i < entries.len() {
+        set = add(set, entries[i]);
+        i += 1;
+    }
+    set
 }
 
 // No number from n on is in the set.

@@ -14,7 +14,7 @@ use borrow.Author.Tests.{leb-true, le-leb, lt-ltb, eq-eqb, ltb-true}
 use Rattle.tables.specs.Sizes.{markRoom, top, timeEnd}
 use Rattle.tables.proofs.Checks.{part}
 use Rattle.tables.proofs.Below.{gather}
-use Rattle.state.specs.Node.{blank, recordAt, masterAt, masters, isMaster, listed}
+use Rattle.state.specs.Node.{blank, recordAt, masterAt, isMaster, listed, owns, votingMaster, votingMasters}
 use Rattle.state.specs.Changes.{withRole, withConfig, withPing, withFlag, withVote, withRecord, withRecords, withMarks, withCurrent, withVoted, withClock, withElection, arrived}
 use Rattle.state.specs.declared.Node.{Node}
 use Rattle.state.specs.declared.Record.{Record}
@@ -50,9 +50,9 @@ pub opened-election : (n : Node) (epoch opened : ℕ) (voters : NodeSet) → isM
 unfolding electionSound
 opened-election n epoch opened voters m e t v = rw (m, le-leb epoch (n .current) e, le-leb opened (n .clock) t, v) (none-within voters)
 
--- the masters listed lie within the roster
-pub masters-below : (n : Node) → below (masters n) (n .size) ≡ true
-masters-below n = gathered-below (masterAt n) (n .size) (λ k e. ltb-true k (n .size) (first (listed n k) (isMaster (recordAt n k .role)) e))
+-- the voting masters lie within the roster
+voting-below : (n : Node) (slots : List ℕ) → below (votingMasters n slots) (n .size) ≡ true
+voting-below n slots = gathered-below (votingMaster n slots) (n .size) (λ k e. ltb-true k (n .size) (first (listed n k) (isMaster (recordAt n k .role)) (first (masterAt n k) (owns slots k) e)))
   where
     first : (t u : Bool) → cond t u false ≡ true → t ≡ true
     first true u e = refl
@@ -167,13 +167,14 @@ module _ (n : Node) (h : sound n ≡ true) where
   unfolding electionSound
   closed-sound = election-sound n h Closed refl
 
-  -- a replica's opening: currentEpoch goes up by 1 and is its epoch, its set is the masters listed, none heard
-  pub opening-sound : isMaster (recordAt n (n .me) .role) ≡ false → n .current < top → sound (withElection (Open (n .current + 1) (n .clock) (masters n) none) (withCurrent (n .current + 1) n)) ≡ true
+  -- a replica's opening: currentEpoch goes up by 1 and is its epoch, its set is the voting masters, none heard
+  pub opening-sound : (slots : List ℕ) → isMaster (recordAt n (n .me) .role) ≡ false → n .current < top → sound (withElection (Open (n .current + 1) (n .clock) (votingMasters n slots) none) (withCurrent (n .current + 1) n)) ≡ true
   unfolding withCurrent
-  opening-sound m l =
+  opening-sound slots m l =
       let e = n .current + 1 in
-      election-sound (withCurrent e n) (current-sound e (omega arith) (omega arith)) (Open e (n .clock) (masters n) none)
-      (opened-election (withCurrent e n) e (n .clock) (masters n) m (omega arith) (omega arith) (masters-below n))
+      let voters = votingMasters n slots in
+      election-sound (withCurrent e n) (current-sound e (omega arith) (omega arith)) (Open e (n .clock) voters none)
+      (opened-election (withCurrent e n) e (n .clock) voters m (omega arith) (omega arith) (voting-below n slots))
 
   -- ---- marks
 

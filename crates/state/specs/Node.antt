@@ -1,10 +1,11 @@
 -- Reading a node: its arrays by place, and the words for roles and flags.
 use Prim.Native.Nat.{ℕ}
 use mathlib.Core.Bool.{Bool, true, false, cond}
-use mathlib.Core.List.{List, []}
-use lib.Dec.{eqb, ltb}
+use mathlib.Core.List.{List, [], _∷_}
+use lib.Dec.{ltb}
 use lib.ListN.{getD}
-use Rattle.tables.specs.Lists.{firstAt, isFound}
+use Rattle.tables.specs.Checks.{allOf}
+use Rattle.tables.specs.Lists.{occurs}
 use Rattle.nodesets.specs.NodeSets.{gathered}
 use Rattle.nodesets.specs.declared.NodeSet.{NodeSet}
 use Rattle.state.specs.declared.NodeId.{NodeId}
@@ -65,7 +66,7 @@ listed n k = ltb k (n .size)
 abbrev pub masterAt : Node → ℕ → Bool
 masterAt n k = cond (listed n k) (isMaster (recordAt n k .role)) false
 
--- the masters listed now, as a set; their number is its count
+-- the masters listed now, as a set
 abbrev pub masters : Node → NodeSet
 masters n = gathered (masterAt n)
 
@@ -84,4 +85,12 @@ peerOf (Importing p) = p
 
 -- node k owns some slot of the table
 abbrev pub owns : List ℕ → ℕ → Bool
-owns slots k = isFound (firstAt (λ slot owner. eqb owner k) slots)
+owns slots k = occurs slots k
+
+-- a voting master (document 02, [3]): a node of the roster that is recorded as a master now and owns some slot of the table lent
+abbrev pub votingMaster : Node → List ℕ → ℕ → Bool
+votingMaster n slots k = allOf (masterAt n k ∷ owns slots k ∷ [])
+
+-- the voting masters, as a set; their number is its count
+abbrev pub votingMasters : Node → List ℕ → NodeSet
+votingMasters n slots = gathered (votingMaster n slots)

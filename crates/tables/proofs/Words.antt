@@ -1,5 +1,5 @@
 -- Laws of sets over any number of words: members, within and below by members, and a word made from a test.
-use mathlib.Core.Path.{_≡_, refl, sym, ap, _∙_}
+use mathlib.Core.Path.{_≡_, refl, sym, ap, ap₂, _∙_}
 use mathlib.Core.Bool.{Bool, true, false, cond}
 use mathlib.Core.List.{List, [], _∷_}
 use Prim.Native.Nat.{ℕ, zero, suc, _+_, _-_, _*_, _/_, _%_, _^_, min, _≤_, _<_}
@@ -15,7 +15,7 @@ use lib.ListN.{length, getD, set, List·getD-eq-default}
 use lib.Seq.{set-out}
 use lib.Pow.{pow-pos, pow-mono, pow-lt, split}
 use borrow.Author.Tests.{lt-ltb, le-ltb, ltb-true, eq-eqb, ne-eqb, eqb-true}
-use Rattle.tables.specs.Sets.{bit, has, add, AllFit, majority, within, below, wordOf}
+use Rattle.tables.specs.Sets.{bit, has, add, AllFit, majority, within, both, below, wordOf}
 use Rattle.tables.proofs.Checks.{never}
 use Rattle.tables.proofs.Groups.{bit-half}
 use Rattle.tables.proofs.Sets.{bit-zero, bit-past, has-low, has-high}
@@ -42,17 +42,27 @@ bit-member w v l e =
     let m : v % 64 ≡ v = omega arith in
     rw (d, m) e
 
-and-digit : (r s : ℕ) → r < 2 → s < 2 → eqb (bitAnd r s) 1 ≡ true → eqb s 1 ≡ true
-and-digit zero s h g e = never (sym e)
-and-digit (suc zero) zero h g e = never (sym e)
-and-digit (suc zero) (suc zero) h g e = refl
-and-digit (suc zero) (suc (suc s)) h g e = absurd (omega arith)
-and-digit (suc (suc r)) s h g e = absurd (omega arith)
+and-digit : (r s : ℕ) → r < 2 → s < 2 → eqb (bitAnd r s) 1 ≡ cond (eqb r 1) (eqb s 1) false
+and-digit zero zero h g = refl
+and-digit zero (suc zero) h g = refl
+and-digit (suc zero) zero h g = refl
+and-digit (suc zero) (suc zero) h g = refl
+and-digit zero (suc (suc s)) h g = absurd (omega arith)
+and-digit (suc zero) (suc (suc s)) h g = absurd (omega arith)
+and-digit (suc (suc r)) s h g = absurd (omega arith)
+
+-- a bit of both words
+bits-both : (a b k : ℕ) → bit (bitAnd a b) k ≡ cond (bit a k) (bit b k) false
+bits-both a b k =
+    let d : bitAnd a b / 2 ^ k % 2 ≡ bitAnd (a / 2 ^ k % 2) (b / 2 ^ k % 2) = ap (λ (x : ℕ). x % 2) (and-shr a b k) ∙ and-mod (a / 2 ^ k) (b / 2 ^ k) 1 in
+    ap (λ (x : ℕ). eqb x 1) d ∙ and-digit (a / 2 ^ k % 2) (b / 2 ^ k % 2) (mod-lt (a / 2 ^ k) two) (mod-lt (b / 2 ^ k) two)
 
 bit-and : (a b k : ℕ) → bit (bitAnd a b) k ≡ true → bit b k ≡ true
-bit-and a b k e =
-    let d : bitAnd a b / 2 ^ k % 2 ≡ bitAnd (a / 2 ^ k % 2) (b / 2 ^ k % 2) = ap (λ (x : ℕ). x % 2) (and-shr a b k) ∙ and-mod (a / 2 ^ k) (b / 2 ^ k) 1 in
-    and-digit (a / 2 ^ k % 2) (b / 2 ^ k % 2) (mod-lt (a / 2 ^ k) two) (mod-lt (b / 2 ^ k) two) (ap (λ (x : ℕ). eqb x 1) (sym d) ∙ e)
+bit-and a b k e = by (bit a k) (sym (bits-both a b k) ∙ e)
+  where
+    by : (t : Bool) → cond t (bit b k) false ≡ true → bit b k ≡ true
+    by true q = q
+    by false q = never (sym q)
 
 pub within-has : (a b v : ℕ) → bitAnd a b ≡ a → has (a ∷ []) v ≡ true → has (b ∷ []) v ≡ true
 within-has a b v q e = let m = member-bit a v e in bit-member b v (m .0) (bit-and a b v (ap (λ (x : ℕ). bit x v) q ∙ m .1))
@@ -132,15 +142,15 @@ small-bits = bin-ind (λ w. (n : ℕ) → ((k : ℕ) → bit w k ≡ true → k 
 has-past : (w : ℕ) (ws : List ℕ) (k : ℕ) → 64 ≤ k → has (w ∷ ws) k ≡ has ws (k - 64)
 has-past w ws k h = let e : k ≡ 64 + (k - 64) = omega arith in ap (has (w ∷ ws)) e ∙ has-high w ws (k - 64)
 
-both : (b r : Bool) → cond b r false ≡ true → (b ≡ true) × (r ≡ true)
-both true r h = (refl, h)
-both false r h = never (sym h)
+halves : (b r : Bool) → cond b r false ≡ true → (b ≡ true) × (r ≡ true)
+halves true r h = (refl, h)
+halves false r h = never (sym h)
 
 pub within-parts : (p w : ℕ) (ps ws : List ℕ) → within (p ∷ ps) (w ∷ ws) ≡ true → (bitAnd p w ≡ p) × (within ps ws ≡ true)
-within-parts p w ps ws e = let q = both (eqb (bitAnd p w) p) (within ps ws) e in (eqb-true (bitAnd p w) p (q .0), q .1)
+within-parts p w ps ws e = let q = halves (eqb (bitAnd p w) p) (within ps ws) e in (eqb-true (bitAnd p w) p (q .0), q .1)
 
 below-parts : (w : ℕ) (ws : List ℕ) (n : ℕ) → below (w ∷ ws) n ≡ true → (w < 2 ^ min n 64) × (below ws (n - 64) ≡ true)
-below-parts w ws n e = let q = both (ltb w (2 ^ min n 64)) (below ws (n - 64)) e in (ltb-true w (2 ^ min n 64) (q .0), q .1)
+below-parts w ws n e = let q = halves (ltb w (2 ^ min n 64)) (below ws (n - 64)) e in (ltb-true w (2 ^ min n 64) (q .0), q .1)
 
 -- ---- within: every member of one is a member of the other
 
@@ -195,6 +205,26 @@ within-fits [] ws e a = tt
 within-fits (p ∷ ps) [] e a = never (sym e)
 within-fits (p ∷ ps) (w ∷ ws) e a =
     (rw (within-parts p w ps ws e .0) at (lt-of-le-of-lt (and-le-r p w) (a .0)), within-fits ps ws (within-parts p w ps ws e .1) (a .1))
+
+-- ---- both: the members of both
+
+neither : (t : Bool) → false ≡ cond t false false
+neither true = refl
+neither false = refl
+
+pub has-both : (ws vs : List ℕ) (k : ℕ) → has (both ws vs) k ≡ cond (has ws k) (has vs k) false
+has-both [] vs k = rw (bit-zero (k % 64))
+has-both (w ∷ ws) [] k = rw (bit-zero (k % 64)) (neither (has (w ∷ ws) k))
+has-both (w ∷ ws) (v ∷ vs) k = by (decLt k 64) (has-both ws vs (k - 64))
+  where
+    by : Dec (k < 64) → has (both ws vs) (k - 64) ≡ cond (has ws (k - 64)) (has vs (k - 64)) false → has (both (w ∷ ws) (v ∷ vs)) k ≡ cond (has (w ∷ ws) k) (has (v ∷ vs) k) false
+    by (yes l) rest = has-low (bitAnd w v) (both ws vs) k l ∙ bits-both w v k ∙ sym (ap₂ (λ (s t : Bool). cond s t false) (has-low w ws k l) (has-low v vs k l))
+    by (no f) rest = has-past (bitAnd w v) (both ws vs) k (omega arith) ∙ rest ∙ sym (ap₂ (λ (s t : Bool). cond s t false) (has-past w ws k (omega arith)) (has-past v vs k (omega arith)))
+
+pub both-fits : (ws vs : List ℕ) → AllFit vs → AllFit (both ws vs)
+both-fits [] vs a = tt
+both-fits (w ∷ ws) [] a = tt
+both-fits (w ∷ ws) (v ∷ vs) a = (lt-of-le-of-lt (and-le-r w v) (a .0), both-fits ws vs (a .1))
 
 -- ---- one member more keeps each word within 64 bits
 

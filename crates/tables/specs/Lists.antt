@@ -49,3 +49,7 @@ newline = 0x0a
 abbrev pub isFound : Found → Bool
 isFound Nothing = false
 isFound (At place) = true
+
+-- some entry of the table is that number
+abbrev pub occurs : List ℕ → ℕ → Bool
+occurs xs k = isFound (firstAt (λ place entry. eqb entry k) xs)

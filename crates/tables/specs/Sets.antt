@@ -40,6 +40,12 @@ within [] whole = true
 within (w ∷ ws) [] = false
 within (w ∷ ws) (v ∷ vs) = cond (eqb (bitAnd w v) w) (within ws vs) false
 
+-- the members of both of two sets of as many words
+abbrev pub both : List ℕ → List ℕ → List ℕ
+both [] vs = []
+both (w ∷ ws) [] = []
+both (w ∷ ws) (v ∷ vs) = bitAnd w v ∷ both ws vs
+
 -- no number from n on is in the set, and each word fits 64 bits
 abbrev pub below : List ℕ → ℕ → Bool
 below [] n = true
