@@ -85,9 +85,9 @@ module _ {taking : Record → Record → Record} (a b : Node) (h : Only taking a
   unfolding withRecords
   clock-kept = ap (λ (n : Node). n .clock) (h .rest)
 
-  pub signalled-like : (masters : NodeSet) (reports : List ℕ) (k : ℕ) (f : Flag) → flagIfSignalled b masters reports k f ≡ flagIfSignalled a masters reports k f
+  pub signalled-like : (voters : NodeSet) (reports : List ℕ) (k : ℕ) (f : Flag) → flagIfSignalled b voters reports k f ≡ flagIfSignalled a voters reports k f
   unfolding withRecords flagIfSignalled mostSignal signals recent
-  signalled-like masters reports k f = ap (λ (n : Node). flagIfSignalled n masters reports k f) (h .rest)
+  signalled-like voters reports k f = ap (λ (n : Node). flagIfSignalled n voters reports k f) (h .rest)
 
 pub role-kept : (a b : Node) → Kept a b → (k : ℕ) → recordAt b k .role ≡ recordAt a k .role
 role-kept a b h k = ap (λ (r : Record). r .role) (h .records k)
@@ -97,25 +97,25 @@ master-kept a b h k = rw (size-kept a b h, role-kept a b h k)
 
 -- ---- the look at one node
 
-pub looked-flags : (masters : NodeSet) (reports : List ℕ) (s : ℕ) (n : Node) → FlagsOnly n (lookedAt masters reports s n)
+pub looked-flags : (voters : NodeSet) (reports : List ℕ) (s : ℕ) (n : Node) → FlagsOnly n (lookedAt voters reports s n)
 unfolding lookedAt
-looked-flags masters reports s n = flag-set n s (flagIfSignalled n masters reports s (recordAt n s .flag))
+looked-flags voters reports s n = flag-set n s (flagIfSignalled n voters reports s (recordAt n s .flag))
 
-pub looked-others : (masters : NodeSet) (reports : List ℕ) (s : ℕ) (n : Node) → OthersKept s n (lookedAt masters reports s n)
+pub looked-others : (voters : NodeSet) (reports : List ℕ) (s : ℕ) (n : Node) → OthersKept s n (lookedAt voters reports s n)
 unfolding lookedAt
-looked-others masters reports s n = others-one n s (withFlag (flagIfSignalled n masters reports s (recordAt n s .flag)) (recordAt n s))
+looked-others voters reports s n = others-one n s (withFlag (flagIfSignalled n voters reports s (recordAt n s .flag)) (recordAt n s))
 
 -- past the records, and where the node is not PFAIL, the look changes nothing
-pub looked-out : (masters : NodeSet) (reports : List ℕ) (s : ℕ) (n : Node) → length (n .records) ≤ s → lookedAt masters reports s n ≡ n
+pub looked-out : (voters : NodeSet) (reports : List ℕ) (s : ℕ) (n : Node) → length (n .records) ≤ s → lookedAt voters reports s n ≡ n
 unfolding lookedAt
-looked-out masters reports s n l = record-out n s (withFlag (flagIfSignalled n masters reports s (recordAt n s .flag)) (recordAt n s)) l
+looked-out voters reports s n l = record-out n s (withFlag (flagIfSignalled n voters reports s (recordAt n s .flag)) (recordAt n s)) l
 
-pub looked-alone : (masters : NodeSet) (reports : List ℕ) (s : ℕ) (n : Node) → isPfail (recordAt n s .flag) ≡ false → lookedAt masters reports s n ≡ n
+pub looked-alone : (voters : NodeSet) (reports : List ℕ) (s : ℕ) (n : Node) → isPfail (recordAt n s .flag) ≡ false → lookedAt voters reports s n ≡ n
 unfolding lookedAt flagIfSignalled
-looked-alone masters reports s n e =
-    let q : flagIfSignalled n masters reports s (recordAt n s .flag) ≡ recordAt n s .flag = rw e in
+looked-alone voters reports s n e =
+    let q : flagIfSignalled n voters reports s (recordAt n s .flag) ≡ recordAt n s .flag = rw e in
     ap (λ (f : Flag). withRecord s (withFlag f (recordAt n s)) n) q ∙ record-back n s
 
-pub looked-flag : (masters : NodeSet) (reports : List ℕ) (s : ℕ) (n : Node) → s < length (n .records) → recordAt (lookedAt masters reports s n) s .flag ≡ flagIfSignalled n masters reports s (recordAt n s .flag)
+pub looked-flag : (voters : NodeSet) (reports : List ℕ) (s : ℕ) (n : Node) → s < length (n .records) → recordAt (lookedAt voters reports s n) s .flag ≡ flagIfSignalled n voters reports s (recordAt n s .flag)
 unfolding lookedAt withRecords
-looked-flag masters reports s n l = ap (λ (r : Record). r .flag) (getD-set-same (n .records) s (withFlag (flagIfSignalled n masters reports s (recordAt n s .flag)) (recordAt n s)) blank l)
+looked-flag voters reports s n l = ap (λ (r : Record). r .flag) (getD-set-same (n .records) s (withFlag (flagIfSignalled n voters reports s (recordAt n s .flag)) (recordAt n s)) blank l)

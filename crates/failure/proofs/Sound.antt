@@ -45,16 +45,16 @@ module _ (n : Node) (h : sound n ≡ true) where
   pfail-other : (s : ℕ) → isPfail (recordAt n s .flag) ≡ true → s ≡ n .me → ⊥
   pfail-other s p e = clash (recordAt n (n .me) .flag) own-flag (rw e at p)
 
-  module _ (masters : NodeSet) (reports : List ℕ) (s : ℕ) where
-    looked-other : (s ≡ n .me → ⊥) → sound (lookedAt masters reports s n) ≡ true
+  module _ (voters : NodeSet) (reports : List ℕ) (s : ℕ) where
+    looked-other : (s ≡ n .me → ⊥) → sound (lookedAt voters reports s n) ≡ true
     unfolding lookedAt flagIfSignalled
     looked-other d =
         let f = recordAt n s .flag in
-        flagged-sound s (flagIfSignalled n masters reports s f) (λ l. either-sound (n .clock) (allOf (isPfail f ∷ mostSignal n masters reports s ∷ [])) f (flag-is-sound n h s l)) d
+        flagged-sound s (flagIfSignalled n voters reports s f) (λ l. either-sound (n .clock) (allOf (isPfail f ∷ mostSignal n voters reports s ∷ [])) f (flag-is-sound n h s l)) d
 
-    by-flag : (t : Bool) → isPfail (recordAt n s .flag) ≡ t → sound (lookedAt masters reports s n) ≡ true
+    by-flag : (t : Bool) → isPfail (recordAt n s .flag) ≡ t → sound (lookedAt voters reports s n) ≡ true
     by-flag true e = looked-other (pfail-other s e)
-    by-flag false e = rw (looked-alone masters reports s n e) h
+    by-flag false e = rw (looked-alone voters reports s n e) h
 
-    pub looked-sound : sound (lookedAt masters reports s n) ≡ true
+    pub looked-sound : sound (lookedAt voters reports s n) ≡ true
     looked-sound = by-flag (isPfail (recordAt n s .flag)) refl

@@ -1,5 +1,5 @@
--- Who signals a node, and the look at one node: document 01, "Report, fail". Each definition takes the node as it is past the
--- refusals: "now" is its clock, T its timeout, and s is the subject's number.
+-- Who signals a node, and the look at one node: document 01, "Report, fail", and document 02, [3]. Each definition takes the node
+-- as it is past the refusals: "now" is its clock, T its timeout, s is the subject's number, and voters are the voting masters.
 use Prim.Native.Nat.{ℕ, _+_, _*_, _-_}
 use mathlib.Core.Bool.{Bool, cond, not}
 use mathlib.Core.List.{List, [], _∷_}
@@ -35,22 +35,22 @@ recent n stored =
 abbrev pub withMaster : NodeSet → ℕ → Role → NodeSet
 withMaster masters k role = cond (isMaster role) (added masters k) masters
 
--- does node k of the roster, one of the masters, signal s: this node does, and each other but the subject by a recent report
+-- does node k of the roster, one of the voting masters, signal s: this node does, and each other but the subject by a recent report
 unfoldable pub signals : Node → NodeSet → List ℕ → ℕ → ℕ → Bool
-signals n masters reports s k =
-    allOf (listed n k ∷ has masters k ∷ anyOf (eqb k (n .me) ∷ allOf (not (eqb k s) ∷ recent n (getD reports (reportAt s k) 0) ∷ []) ∷ []) ∷ [])
+signals n voters reports s k =
+    allOf (listed n k ∷ has voters k ∷ anyOf (eqb k (n .me) ∷ allOf (not (eqb k s) ∷ recent n (getD reports (reportAt s k) 0) ∷ []) ∷ []) ∷ [])
 
 abbrev pub signallers : Node → NodeSet → List ℕ → ℕ → NodeSet
-signallers n masters reports s = gathered (signals n masters reports s)
+signallers n voters reports s = gathered (signals n voters reports s)
 
--- more than half of all masters signal s
+-- more than half of the voting masters signal s
 unfoldable pub mostSignal : Node → NodeSet → List ℕ → ℕ → Bool
-mostSignal n masters reports s = majority masters (signallers n masters reports s)
+mostSignal n voters reports s = majority voters (signallers n voters reports s)
 
--- the flag of s after the look: PFAIL becomes FAIL, from now on, if more than half of all masters signal s
+-- the flag of s after the look: PFAIL becomes FAIL, from now on, if more than half of the voting masters signal s
 unfoldable pub flagIfSignalled : Node → NodeSet → List ℕ → ℕ → Flag → Flag
-flagIfSignalled n masters reports s f = cond (allOf (isPfail f ∷ mostSignal n masters reports s ∷ [])) (Fail (n .clock)) f
+flagIfSignalled n voters reports s f = cond (allOf (isPfail f ∷ mostSignal n voters reports s ∷ [])) (Fail (n .clock)) f
 
 -- the look at node s: its flag alone may change
 unfoldable pub lookedAt : NodeSet → List ℕ → ℕ → Node → Node
-lookedAt masters reports s n = onRecord s (λ r. withFlag (flagIfSignalled n masters reports s (r .flag)) r) n
+lookedAt voters reports s n = onRecord s (λ r. withFlag (flagIfSignalled n voters reports s (r .flag)) r) n

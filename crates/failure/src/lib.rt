@@ -1,5 +1,6 @@
-// Who signals a node, and the look at one node: document 01, "Report, fail". A node gets here as it is past the refusals,
-// with the frame's time as its clock. Subjects, sets, lent tables and the node may be anything.
+// Who signals a node, and the look at one node: document 01, "Report, fail", and document 02, [3]. A node gets here as it is past
+// the refusals, with the frame's time as its clock, and with the set of its voting masters. Subjects, sets, lent tables and the
+// node may be anything.
 ghost use mathlib.Core.Path.{_≡_};
 ghost use lib.ListN.{getD};
 ghost use Rattle.failure.specs.Failure.{reportAt, recent, signals, signallers, withMaster, flagIfSignalled};
@@ -42,13 +43,13 @@ fn is_recent(node: Node, stored: u64) -> bool
     true
 }
 
-fn is_signaller(node: Node, masters: NodeSet, reports: &[u64], subject: u16, k: u16) -> bool
-    ensures { λ r. ⌜ r ≡ signals node masters (now (reports .entry)) subject k ⌝ }
+fn is_signaller(node: Node, voters: NodeSet, reports: &[u64], subject: u16, k: u16) -> bool
+    ensures { λ r. ⌜ r ≡ signals node voters (now (reports .entry)) subject k ⌝ }
 {
     if k < node.size {} else {
         return false;
     }
-    if nodesets::has(masters, k) {} else {
+    if nodesets::has(voters, k) {} else {
         return false;
     }
     if k == node.me {
@@ -70,14 +71,14 @@ pub fn with_master(masters: NodeSet, k: u16, role: Role) -> NodeSet
     masters
 }
 
-fn gather_signallers(node: Node, masters: NodeSet, reports: &[u64], subject: u16) -> NodeSet
-    ensures { λ r. ⌜ r ≡ signallers node masters (now (reports .entry)) subject ⌝ }
+fn gather_signallers(node: Node, voters: NodeSet, reports: &[u64], subject: u16) -> NodeSet
+    ensures { λ r. ⌜ r ≡ signallers node voters (now (reports .entry)) subject ⌝ }
 {
     let end = state::listed(node.size);
     let mut set = nodesets::none();
     let mut k: u16 = 0;
     while k < end {
-        if is_signaller(node, masters, reports, subject, k) {
+        if is_signaller(node, voters, reports, subject, k) {
             set = nodesets::add(set, k);
             k += 1;
             continue;
@@ -87,20 +88,20 @@ fn gather_signallers(node: Node, masters: NodeSet, reports: &[u64], subject: u16
     set
 }
 
-// The look at one node: PFAIL becomes FAIL if more than half of the masters signal it.
+// The look at one node: PFAIL becomes FAIL if more than half of the voting masters signal it.
 pub fn flag_if_signalled(
     node: Node,
-    masters: NodeSet,
+    voters: NodeSet,
     reports: &[u64],
     subject: u16,
     flag: Flag,
 ) -> Flag
-    ensures { λ r. ⌜ r ≡ flagIfSignalled node masters (now (reports .entry)) subject flag ⌝ }
+    ensures { λ r. ⌜ r ≡ flagIfSignalled node voters (now (reports .entry)) subject flag ⌝ }
 {
     if state::is_pfail(flag) {} else {
         return flag;
     }
-    if nodesets::majority(masters, gather_signallers(node, masters, reports, subject)) {
+    if nodesets::majority(voters, gather_signallers(node, voters, reports, subject)) {
         return Flag::Fail(node.clock);
     }
     flag

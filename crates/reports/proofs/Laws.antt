@@ -7,12 +7,12 @@ use Rattle.reports.specs.Keeps.{ReportLaws, FailLaws}
 use Rattle.reports.proofs.Keeps.{reported-node, reported-entry, failed-flags, failed-others}
 use Rattle.reports.proofs.Sound.{reported-sound, failed-sound}
 
-pub report-laws : (n : Node) (reports : List ℕ) (reporter s : ℕ) (verdict : Verdict) → ReportLaws n reports reporter s verdict
-report-laws n reports reporter s verdict = record {
-  flags = reported-node n reports reporter s verdict .0;
-  others = reported-node n reports reporter s verdict .1;
-  entry = reported-entry n reports reporter s verdict;
-  stays-sound = λ h. reported-sound n h reports reporter s verdict;
+pub report-laws : (n : Node) (slots reports : List ℕ) (reporter s : ℕ) (verdict : Verdict) → ReportLaws n slots reports reporter s verdict
+report-laws n slots reports reporter s verdict = record {
+  flags = reported-node n slots reports reporter s verdict .0;
+  others = reported-node n slots reports reporter s verdict .1;
+  entry = reported-entry n slots reports reporter s verdict;
+  stays-sound = λ h. reported-sound n h slots reports reporter s verdict;
 }
 
 pub fail-laws : (n : Node) (s : ℕ) → FailLaws n s

@@ -3,7 +3,7 @@ use mathlib.Core.Path.{_≡_}
 use mathlib.Core.Bool.{true}
 use mathlib.Core.List.{List}
 use Prim.Native.Nat.{ℕ}
-use Rattle.state.specs.Node.{recordAt, masters}
+use Rattle.state.specs.Node.{recordAt, votingMasters}
 use Rattle.state.specs.declared.Node.{Node}
 use Rattle.state.specs.declared.Flag.{Flag}
 use Rattle.state.specs.declared.Flag.the-variants.{Clear, Pfail, Fail}
@@ -24,8 +24,8 @@ module _ (n : Node) (h : sound n ≡ true) where
   unfolding failed
   failed-sound s d = let f = recordAt n s .flag in flagged-sound n h s (failFlag (n .clock) f) (λ l. fail-sound (n .clock) f (flag-is-sound n h s l)) d
 
-  pub reported-sound : (reports : List ℕ) (reporter s : ℕ) (v : Verdict) → sound (reported n reports reporter s v .node) ≡ true
+  pub reported-sound : (slots reports : List ℕ) (reporter s : ℕ) (v : Verdict) → sound (reported n slots reports reporter s v .node) ≡ true
   unfolding reported stored
-  reported-sound reports reporter s verdict.Fine = h
-  reported-sound reports reporter s verdict.Pfail = looked-sound n h (masters n) _ s
-  reported-sound reports reporter s verdict.Fail = looked-sound n h (masters n) _ s
+  reported-sound slots reports reporter s verdict.Fine = h
+  reported-sound slots reports reporter s verdict.Pfail = looked-sound n h (votingMasters n slots) _ s
+  reported-sound slots reports reporter s verdict.Fail = looked-sound n h (votingMasters n slots) _ s

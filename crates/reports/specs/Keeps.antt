@@ -11,14 +11,14 @@ use Rattle.failure.specs.Keeps.{FlagsOnly, OthersKept, EntriesKept}
 use Rattle.reports.specs.Reports.{reported, failed}
 
 -- a report about s
-pub record ReportLaws (n : Node) (reports : List ℕ) (reporter s : ℕ) (verdict : Verdict) : Type 0 where
+pub record ReportLaws (n : Node) (slots reports : List ℕ) (reporter s : ℕ) (verdict : Verdict) : Type 0 where
   -- of the node nothing but the subject's flag changes
-  pub flags : FlagsOnly n (reported n reports reporter s verdict .node)
-  pub others : OthersKept s n (reported n reports reporter s verdict .node)
+  pub flags : FlagsOnly n (reported n slots reports reporter s verdict .node)
+  pub others : OthersKept s n (reported n slots reports reporter s verdict .node)
   -- of the report times none but this reporter's about the subject
-  pub entry : EntriesKept (reportAt s reporter) reports (reported n reports reporter s verdict .reports)
+  pub entry : EntriesKept (reportAt s reporter) reports (reported n slots reports reporter s verdict .reports)
   -- a sound state stays sound
-  pub stays-sound : sound n ≡ true → sound (reported n reports reporter s verdict .node) ≡ true
+  pub stays-sound : sound n ≡ true → sound (reported n slots reports reporter s verdict .node) ≡ true
 
 -- a fail frame about s
 pub record FailLaws (n : Node) (s : ℕ) : Type 0 where

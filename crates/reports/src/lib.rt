@@ -1,8 +1,8 @@
-// Reports and fail frames: document 01, "Report, fail". Each function gets the node as it is past the refusals, with the
+// Reports and fail frames: document 01, "Report, fail", and document 02, [3]. Each function gets the node as it is past the refusals, with the
 // frame's time as its clock. Subjects, lent tables and the node may be anything.
 ghost use mathlib.Core.Path.{_≡_};
 ghost use lib.ListN.{set};
-ghost use Rattle.state.specs.Node.{masters};
+ghost use Rattle.state.specs.Node.{votingMasters};
 ghost use Rattle.state.specs.Outcomes.{Reported};
 ghost use Rattle.failure.specs.Failure.{reportAt, stamp, lookedAt};
 ghost use Rattle.reports.specs.Reports.{reported, failFlag, failed};
@@ -30,10 +30,10 @@ fn store(reports: &mut [u64], reporter: u8, subject: u8, t: u64)
     }
 }
 
-// The look at the subject. The masters are gathered only where it is PFAIL, and from the node that is changed: a function that
-// is handed the node to index it copies it.
-fn look_at(node: Node, reports: &[u64], subject: u8) -> Node
-    ensures { λ r. ⌜ r ≡ lookedAt (masters node) (now (reports .entry)) subject node ⌝ }
+// The look at the subject. The voting masters are found only where it is PFAIL: their table is read once, and their roles from
+// the node that is changed, since a function that is handed the node to index it copies it.
+fn look_at(node: Node, slots: &[u16], reports: &[u64], subject: u8) -> Node
+    ensures { λ r. ⌜ r ≡ lookedAt (votingMasters node (now (slots .entry))) (now (reports .entry)) subject node ⌝ }
 {
     let k = subject as usize;
     let mut next = node;
@@ -51,9 +51,11 @@ fn look_at(node: Node, reports: &[u64], subject: u8) -> Node
                 masters = failure::with_master(masters, j, role);
                 j += 1;
             }
+            let owners = nodesets::among(slots);
+            let voters = nodesets::both(masters, owners);
             next.records[k] = changes::with_flag(
                 known,
-                failure::flag_if_signalled(next, masters, reports, subject as u16, flag),
+                failure::flag_if_signalled(next, voters, reports, subject as u16, flag),
             );
         }
     }
@@ -61,8 +63,15 @@ fn look_at(node: Node, reports: &[u64], subject: u8) -> Node
 }
 
 // A reporter says how the subject is.
-pub fn report(node: Node, reports: &mut [u64], reporter: u8, subject: u8, verdict: Verdict) -> Node
-    ensures { λ r. ⌜ record { node = r; reports = now (reports .exit) } ≡ reported node (now (reports .entry)) reporter subject verdict ⌝ }
+pub fn report(
+    node: Node,
+    slots: &[u16],
+    reports: &mut [u64],
+    reporter: u8,
+    subject: u8,
+    verdict: Verdict,
+) -> Node
+    ensures { λ r. ⌜ record { node = r; reports = now (reports .exit) } ≡ reported node (now (slots .entry)) (now (reports .entry)) reporter subject verdict ⌝ }
 {
     match verdict {
         Verdict::Fine => return node,
@@ -70,7 +79,7 @@ pub fn report(node: Node, reports: &mut [u64], reporter: u8, subject: u8, verdic
         Verdict::Fail => {}
     }
     store(reports, reporter, subject, node.clock);
-    look_at(node, reports, subject)
+    look_at(node, slots, reports, subject)
 }
 
 fn fail_flag(now: u64, flag: Flag) -> Flag

@@ -14,18 +14,18 @@ use Rattle.failure.proofs.gather_signallers.Statement.{statement}
 use Rattle.failure.proofs.gather_signallers.Tie as tie
 
 -- past the roster nobody signals
-unlisted : (n : Node) (masters : NodeSet) (reports : List ℕ) (s k : ℕ) → n .size ≤ k → signals n masters reports s k ≡ false
+unlisted : (n : Node) (voters : NodeSet) (reports : List ℕ) (s k : ℕ) → n .size ≤ k → signals n voters reports s k ≡ false
 unfolding signals
-unlisted n masters reports s k l = rw (le-ltb k (n .size) l)
+unlisted n voters reports s k l = rw (le-ltb k (n .size) l)
 
 abbrev Inv-loop : tie.InvT-loop
-Inv-loop node masters reports subject end set₀ k₀ set k = (k ≤ end) × Gathered (signals node masters reports subject) k set
+Inv-loop node voters reports subject end set₀ k₀ set k = (k ≤ end) × Gathered (signals node voters reports subject) k set
 
 abbrev μ-loop : tie.MeasureT-loop
-μ-loop node masters reports subject end set₀ k₀ set k = end - k
+μ-loop node voters reports subject end set₀ k₀ set k = end - k
 
 abbrev test : tie.Start Inv-loop μ-loop → ℕ → Bool
-test c = let s = c .args in signals (s .node) (s .masters) (s .reports .now) (s .subject)
+test c = let s = c .args in signals (s .node) (s .voters) (s .reports .now) (s .subject)
 
 listed-requires : tie.Need-listed-requires Inv-loop μ-loop
 listed-requires c κs = search needs
@@ -69,7 +69,7 @@ returns : tie.Need-returns Inv-loop μ-loop
 returns c =
     let l = c .before .loop in
     let s = c .before .before .before .before .before .args in
-    at-last (test (c .before .before .before .before .before)) (l .k) (l .set) (λ k h g. unlisted (s .node) (s .masters) (s .reports .now) (s .subject) k (omega arith)) (omega arith) (l .inv .1)
+    at-last (test (c .before .before .before .before .before)) (l .k) (l .set) (λ k h g. unlisted (s .node) (s .voters) (s .reports .now) (s .subject) k (omega arith)) (omega arith) (l .inv .1)
 
 pub gather-signallers-spec : {M : Type 1} → statement M
 gather-signallers-spec =

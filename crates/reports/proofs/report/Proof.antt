@@ -32,8 +32,8 @@ same-length c = search needs
 returns-2 : tie.Need-returns-2
 unfolding reported stored
 returns-2 c =
-    let s = c .before .before .before .before .before .before .before .before .args in
-    let e : reported (s .node) (s .reports .now) (s .reporter) (s .subject) (s .verdict) ≡ stored (s .node) (s .reports .now) (s .reporter) (s .subject) = ⊎-elim (λ p. rw (p .1 .given .1)) (λ p. rw (p .1 .given .1)) (c .before .before .before .before .before .before .match .came) in
+    let s = c .before .before .before .before .before .before .before .before .before .args in
+    let e : reported (s .node) (s .slots .now) (s .reports .now) (s .reporter) (s .subject) (s .verdict) ≡ stored (s .node) (s .slots .now) (s .reports .now) (s .reporter) (s .subject) = ⊎-elim (λ p. rw (p .1 .given .1)) (λ p. rw (p .1 .given .1)) (c .before .before .before .before .before .before .match .came) in
     rw e (rw (c .look-at .ensures, c .before .before .before .before .store .ensures) refl)
 
 pub report-spec : {M : Type 1} → statement M
