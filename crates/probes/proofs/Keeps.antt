@@ -6,7 +6,7 @@ use lib.ListN.{length}
 use Rattle.tables.specs.Below.{inTurn}
 use Rattle.tables.proofs.Below.{in-turn-keeps}
 use Rattle.nodesets.specs.declared.NodeSet.{NodeSet}
-use Rattle.state.specs.Node.{recordAt, masters}
+use Rattle.state.specs.Node.{recordAt, votingMasters}
 use Rattle.state.specs.Changes.{withFlag}
 use Rattle.state.specs.declared.Node.{Node}
 use Rattle.state.specs.declared.Echo.{Echo}
@@ -53,15 +53,16 @@ pub all-suspected : (n : Node) → FlagsOnly n (allSuspected n)
 unfolding allSuspected
 all-suspected n = turns suspected suspected-flags n (n .size)
 
-all-looked : (masters : NodeSet) (reports : List ℕ) (n : Node) → FlagsOnly n (allLookedAt masters reports n)
+all-looked : (voters : NodeSet) (reports : List ℕ) (n : Node) → FlagsOnly n (allLookedAt voters reports n)
 unfolding allLookedAt
-all-looked masters reports n = turns (lookedAt masters reports) (looked-flags masters reports) n (n .size)
+all-looked voters reports n = turns (lookedAt voters reports) (looked-flags voters reports) n (n .size)
 
-pub ticked-flags : (n : Node) (reports : List ℕ) → FlagsOnly n (ticked n reports)
+pub ticked-flags : (n : Node) (slots reports : List ℕ) → FlagsOnly n (ticked n slots reports)
 unfolding ticked
-ticked-flags n reports =
+ticked-flags n slots reports =
     let m = allSuspected n in
-    flags-then n m (allLookedAt (masters n) reports m) (all-suspected n) (all-looked (masters n) reports m)
+    let voters = votingMasters n slots in
+    flags-then n m (allLookedAt voters reports m) (all-suspected n) (all-looked voters reports m)
 
-pub ticked-kept : (n : Node) (reports : List ℕ) → Kept n (ticked n reports)
-ticked-kept n reports = flags-kept n (ticked n reports) (ticked-flags n reports)
+pub ticked-kept : (n : Node) (slots reports : List ℕ) → Kept n (ticked n slots reports)
+ticked-kept n slots reports = flags-kept n (ticked n slots reports) (ticked-flags n slots reports)

@@ -21,9 +21,9 @@ probe-laws n slots s echo = record {
   stays-sound = λ h. probed-sound n h slots s echo;
 }
 
-pub tick-laws : (n : Node) (reports : List ℕ) → TickLaws n reports
-tick-laws n reports = record {
-  flags = ticked-flags n reports;
-  each = λ h k l. tick-each n reports k l (omega (arith, l, all-records n h, few-nodes n h));
-  stays-sound = λ h. ticked-sound n h reports;
+pub tick-laws : (n : Node) (slots reports : List ℕ) → TickLaws n slots reports
+tick-laws n slots reports = record {
+  flags = ticked-flags n slots reports;
+  each = λ h k l. tick-each n slots reports k l (omega (arith, l, all-records n h, few-nodes n h));
+  stays-sound = λ h. ticked-sound n h slots reports;
 }

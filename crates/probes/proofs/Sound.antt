@@ -8,7 +8,7 @@ use lib.Dec.{eqb}
 use borrow.Author.Tests.{le-leb, eqb-false, not-true}
 use Rattle.tables.proofs.Checks.{part}
 use Rattle.tables.proofs.Below.{in-turn-keeps}
-use Rattle.state.specs.Node.{recordAt, masters, isClear}
+use Rattle.state.specs.Node.{recordAt, isClear, votingMasters}
 use Rattle.state.specs.Changes.{withFlag}
 use Rattle.state.specs.declared.Node.{Node}
 use Rattle.state.specs.declared.Role.{Role}
@@ -63,9 +63,10 @@ module _ (n : Node) (h : sound n ≡ true) where
   pub suspected-sound : (k : ℕ) → sound (suspected k n) ≡ true
   suspected-sound k = by-answer k (unanswered n k (recordAt n k)) refl
 
-pub ticked-sound : (n : Node) → sound n ≡ true → (reports : List ℕ) → sound (ticked n reports) ≡ true
+pub ticked-sound : (n : Node) → sound n ≡ true → (slots reports : List ℕ) → sound (ticked n slots reports) ≡ true
 unfolding ticked allSuspected allLookedAt
-ticked-sound n h reports =
+ticked-sound n h slots reports =
     let P : Node → Type 0 = λ m. sound m ≡ true in
     let m = allSuspected n in
-    in-turn-keeps P (lookedAt (masters n) reports) (m .size) m (λ k x l g. looked-sound x g (masters n) reports k) (in-turn-keeps P suspected (n .size) n (λ k x l g. suspected-sound x g k) h)
+    let voters = votingMasters n slots in
+    in-turn-keeps P (lookedAt voters reports) (m .size) m (λ k x l g. looked-sound x g voters reports k) (in-turn-keeps P suspected (n .size) n (λ k x l g. suspected-sound x g k) h)

@@ -22,10 +22,10 @@ pub record ProbeLaws (n : Node) (slots : List ℕ) (s : ℕ) (echo : Echo) : Typ
   pub stays-sound : sound n ≡ true → (s ≡ n .me → ⊥) → sound (probed n slots s echo) ≡ true
 
 -- a tick
-pub record TickLaws (n : Node) (reports : List ℕ) : Type 0 where
+pub record TickLaws (n : Node) (slots reports : List ℕ) : Type 0 where
   -- nothing but flags changes
-  pub flags : FlagsOnly n (ticked n reports)
+  pub flags : FlagsOnly n (ticked n slots reports)
   -- each node of the roster gets the flag that the rules give it by itself, whatever the order of the nodes
-  pub each : sound n ≡ true → (k : ℕ) → k < n .size → recordAt (ticked n reports) k .flag ≡ tickFlag n reports k
+  pub each : sound n ≡ true → (k : ℕ) → k < n .size → recordAt (ticked n slots reports) k .flag ≡ tickFlag n slots reports k
   -- a sound state stays sound
-  pub stays-sound : sound n ≡ true → sound (ticked n reports) ≡ true
+  pub stays-sound : sound n ≡ true → sound (ticked n slots reports) ≡ true

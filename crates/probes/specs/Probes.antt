@@ -1,5 +1,5 @@
--- Pings, pongs and time: document 01, "Probe, tick". Each definition takes the node as it is past the refusals: "now" is its
--- clock, T its timeout, and s is the subject's number.
+-- Pings, pongs and time: document 01, "Probe, tick", and document 02, [3]. Each definition takes the node as it is past the
+-- refusals: "now" is its clock, T its timeout, and s is the subject's number.
 use Prim.Native.Nat.{ℕ}
 use mathlib.Core.Bool.{Bool, false, cond, not}
 use mathlib.Core.List.{List, [], _∷_}
@@ -8,7 +8,7 @@ use Rattle.tables.specs.Checks.{allOf, anyOf}
 use Rattle.tables.specs.Below.{inTurn}
 use Rattle.ages.specs.Ages.{age, overTwice}
 use Rattle.nodesets.specs.declared.NodeSet.{NodeSet}
-use Rattle.state.specs.Node.{recordAt, masters, isMaster, isClear, owns}
+use Rattle.state.specs.Node.{recordAt, isMaster, isClear, owns, votingMasters}
 use Rattle.state.specs.Changes.{withPing, withFlag, onRecord}
 use Rattle.state.specs.declared.Node.{Node}
 use Rattle.state.specs.declared.Record.{Record}
@@ -69,12 +69,12 @@ unfoldable pub allSuspected : Node → Node
 allSuspected n = inTurn suspected (n .size) n
 
 unfoldable pub allLookedAt : NodeSet → List ℕ → Node → Node
-allLookedAt masters reports n = inTurn (lookedAt masters reports) (n .size) n
+allLookedAt voters reports n = inTurn (lookedAt voters reports) (n .size) n
 
 -- PFAIL of all first, then the look at all
-unfoldable pub ticked : Node → List ℕ → Node
-ticked n reports = allLookedAt (masters n) reports (allSuspected n)
+unfoldable pub ticked : Node → List ℕ → List ℕ → Node
+ticked n slots reports = allLookedAt (votingMasters n slots) reports (allSuspected n)
 
 -- what that comes to for node k alone, whatever the order of the nodes: its flag after a tick
-abbrev pub tickFlag : Node → List ℕ → ℕ → Flag
-tickFlag n reports k = flagIfSignalled n (masters n) reports k (flagIfUnanswered n k (recordAt n k))
+abbrev pub tickFlag : Node → List ℕ → List ℕ → ℕ → Flag
+tickFlag n slots reports k = flagIfSignalled n (votingMasters n slots) reports k (flagIfUnanswered n k (recordAt n k))

@@ -1,6 +1,10 @@
-// Pings, pongs and time: document 01, "Probe, tick". Each function gets the node as it is past the refusals, with the
+// Pings, pongs and time: document 01, "Probe, tick", and document 02, [3]. Each function gets the node as it is past the refusals, with the
 // frame's time as its clock. Subjects, lent tables and the node may be anything.
 ghost use mathlib.Core.Path.{_≡_};
+ghost use mathlib.Core.Bool.{not};
+ghost use mathlib.Core.List.{[], _∷_};
+ghost use Rattle.tables.specs.Checks.{allOf};
+ghost use Rattle.state.specs.Node.{isPfail};
 ghost use Rattle.probes.specs.Probes.{started, recovered, pongFlag, afterProbe, probed, overdue, flagIfUnanswered, ticked};
 use state::Echo;
 use state::Flag;
@@ -109,22 +113,41 @@ fn flag_if_unanswered(node: Node, k: u16, known: Record) -> Flag
     flag
 }
 
-// Time went on: PFAIL of all first, and the masters gathered on the way; then the look at all.
-pub fn tick(node: Node, reports: &[u64]) -> Node
-    ensures { λ r. ⌜ r ≡ ticked node (now (reports .entry)) ⌝ }
+// Whether nobody was PFAIL so far, and the next one is not either.
+fn quiet_with(quiet: bool, flag: Flag) -> bool
+    ensures { λ r. ⌜ r ≡ allOf (not (isPfail flag) ∷ quiet ∷ []) ⌝ }
+{
+    if state::is_pfail(flag) {
+        return false;
+    }
+    quiet
+}
+
+// Time went on: PFAIL of all first, and the masters gathered on the way; then the look at all. Where nobody is PFAIL the look
+// changes nothing, and no table is read.
+pub fn tick(node: Node, slots: &[u16], reports: &[u64]) -> Node
+    ensures { λ r. ⌜ r ≡ ticked node (now (slots .entry)) (now (reports .entry)) ⌝ }
 {
     let end = state::listed(node.size);
     let mut next = node;
     let mut masters = nodesets::none();
+    let mut quiet = true;
     let mut k: u16 = 0;
     while k < end {
         let i = k as usize;
         let known = next.records[i];
         let role = known.role;
         masters = failure::with_master(masters, k, role);
-        next.records[i] = changes::with_flag(known, flag_if_unanswered(next, k, known));
+        let flag = flag_if_unanswered(next, k, known);
+        quiet = quiet_with(quiet, flag);
+        next.records[i] = changes::with_flag(known, flag);
         k += 1;
     }
+    if quiet {
+        return next;
+    }
+    let owners = nodesets::among(slots);
+    let voters = nodesets::both(masters, owners);
     let mut s: u16 = 0;
     while s < end {
         let i = s as usize;
@@ -132,7 +155,7 @@ pub fn tick(node: Node, reports: &[u64]) -> Node
         let flag = known.flag;
         next.records[i] = changes::with_flag(
             known,
-            failure::flag_if_signalled(next, masters, reports, s, flag),
+            failure::flag_if_signalled(next, voters, reports, s, flag),
         );
         s += 1;
     }
