@@ -35,9 +35,9 @@ reportedStep slots r = record { outcome = answered (r .node) Done; slots = slots
 -- ---- by kind, past the refusals, with clock and currentEpoch risen
 unfoldable pub onKind : Node → List ℕ → List ℕ → List ℕ → Header → Kind → Stepped
 onKind n slots reports bitmap h (Heartbeat sender role) = slottedStep reports (heartbeat n slots bitmap sender role (h .config))
-onKind n slots reports bitmap h (Report reporter subject verdict) = reportedStep slots (reported n reports reporter subject verdict)
+onKind n slots reports bitmap h (Report reporter subject verdict) = reportedStep slots (reported n slots reports reporter subject verdict)
 onKind n slots reports bitmap h (Fail sender subject) = doneStep slots reports (failed n subject)
 onKind n slots reports bitmap h (Request candidate) = keeping slots reports (requested n slots bitmap candidate (h .epoch) (h .config))
 onKind n slots reports bitmap h (Ack voter candidate) = slottedStep reports (acked n slots voter candidate (h .epoch))
 onKind n slots reports bitmap h (Probe subject echo) = doneStep slots reports (probed n slots subject echo)
-onKind n slots reports bitmap h Tick = doneStep slots reports (ticked n reports)
+onKind n slots reports bitmap h Tick = doneStep slots reports (ticked n slots reports)

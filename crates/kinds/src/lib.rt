@@ -73,13 +73,13 @@ pub fn by_kind(
             reporter,
             subject,
             verdict,
-        } => done(reports::report(node, reports, reporter, subject, verdict)),
+        } => done(reports::report(node, slots, reports, reporter, subject, verdict)),
         Kind::Fail { subject, .. } => done(reports::fail(node, subject)),
         Kind::Request { candidate } => {
             request(node, slots, line, candidate, header.epoch, header.config)
         }
         Kind::Ack { voter, candidate } => { acks::ack(node, slots, voter, candidate, header.epoch) }
         Kind::Probe { subject, echo } => done(probes::probe(node, slots, subject, echo)),
-        Kind::Tick => done(probes::tick(node, reports)),
+        Kind::Tick => done(probes::tick(node, slots, reports)),
     }
 }

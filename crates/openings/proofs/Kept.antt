@@ -30,12 +30,12 @@ followed-within n s = by (recordAt n (n .me) .role) refl
     by Master e = lit< tt
     by (Replica m) e = omega (arith, followed-listed n s (n .me) m (me-listed n s) e .0, few-nodes n s)
 
-replica-opening : (n : Node) → sound n ≡ true → isMaster (roleAt n (n .me)) ≡ false → leb top (n .current) ≡ false → sound (opening n) ≡ true
+replica-opening : (n : Node) (slots : List ℕ) → sound n ≡ true → isMaster (roleAt n (n .me)) ≡ false → leb top (n .current) ≡ false → sound (opening n slots) ≡ true
 unfolding opening
-replica-opening n s r l = opening-sound n s (rw (lt-ltb (n .me) (n .size) (me-listed n s)) at r) (leb-false top (n .current) l)
+replica-opening n slots s r l = opening-sound n s slots (rw (lt-ltb (n .me) (n .size) (me-listed n s)) at r) (leb-false top (n .current) l)
 
 pub open-sound : (n : Node) (slots : List ℕ) (time : ℕ) → sound n ≡ true → sound (opens n slots time .node) ≡ true
 unfolding withClock
 open-sound n slots time s =
     open-cases n slots time (λ (o : Outcome). sound (o .node) ≡ true) (λ a t. s) (λ w a t. arrived-sound n slots time w)
-    (λ w p. replica-opening (withClock time n) (arrived-sound n slots time w) (p 24) (p 9))
+    (λ w p. replica-opening (withClock time n) slots (arrived-sound n slots time w) (p 24) (p 9))

@@ -11,7 +11,7 @@ use Rattle.tables.specs.Sizes.{nodeRoom}
 use Rattle.nodesets.specs.NodeSets.{none, has}
 use Rattle.nodesets.proofs.Members.{none-in, in-gathered}
 use Rattle.answers.specs.declared.Answer.the-variants.{Done}
-use Rattle.state.specs.Node.{masterAt, masters}
+use Rattle.state.specs.Node.{masterAt, votingMaster, votingMasters}
 use Rattle.state.specs.Changes.{withClock, withCurrent, withElection}
 use Rattle.state.specs.declared.Node.{Node}
 use Rattle.state.specs.declared.Outcome.{Outcome}
@@ -22,11 +22,11 @@ use Rattle.openings.specs.NewElection.{NewElection, OpeningLaws}
 use Rattle.openings.proofs.Steps.{open-cases}
 use Rattle.openings.proofs.Kept.{open-sound}
 
--- the set of the masters listed has them as its members
-masters-listed : (n : Node) → n .size ≤ nodeRoom → (k : ℕ) → has (masters n) k ≡ masterAt n k
-masters-listed n l k = in-gathered (masterAt n) k ∙ by (decLt k nodeRoom)
+-- the set of the voting masters has them as its members
+voting-members : (n : Node) (slots : List ℕ) → n .size ≤ nodeRoom → (k : ℕ) → has (votingMasters n slots) k ≡ votingMaster n slots k
+voting-members n slots l k = in-gathered (votingMaster n slots) k ∙ by (decLt k nodeRoom)
   where
-    by : Dec (k < nodeRoom) → cond (ltb k nodeRoom) (masterAt n k) false ≡ masterAt n k
+    by : Dec (k < nodeRoom) → cond (ltb k nodeRoom) (votingMaster n slots k) false ≡ votingMaster n slots k
     by (yes h) = rw (lt-ltb k nodeRoom h)
     by (no f) = rw (le-ltb k nodeRoom (omega arith), le-ltb k (n .size) (omega arith))
 
@@ -34,21 +34,21 @@ module _ (n : Node) (slots : List ℕ) (time : ℕ) where
   abbrev after : Node
   after = opens n slots time .node
 
-  pub opening-new : opens n slots time .answer ≡ Done → NewElection n after
+  pub opening-new : opens n slots time .answer ≡ Done → NewElection slots n after
   unfolding opening withElection withCurrent withClock
   opening-new =
-      open-cases n slots time (λ (o : Outcome). o .answer ≡ Done → NewElection n (o .node))
+      open-cases n slots time (λ (o : Outcome). o .answer ≡ Done → NewElection slots n (o .node))
       (λ a t e. absurd (rw e at t)) (λ w a t e. absurd (rw e at t))
       (λ w p e. record {
         epoch = n .current + 1;
         opened = time;
-        voters = masters n;
+        voters = votingMasters n slots;
         heard = none;
         election = refl;
         raised = refl;
         current = refl;
         since = refl;
-        listed = masters-listed n (few-nodes n (w .sounds));
+        voting = voting-members n slots (few-nodes n (w .sounds));
         unheard = none-in;
       })
 

@@ -39,7 +39,7 @@ module _ (n : Node) (slots : List ℕ) (time : ℕ) where
   pub open-cases : (P : Outcome → Type 0)
       → ((a : Answer) → T (refuses a) → P (answered n a))
       → (Arrives → (a : Answer) → T (refuses a) → P (answered moved a))
-      → (Arrives → ((a : ℕ) → testFor a rows ≡ false) → P (answered (opening moved) Done))
+      → (Arrives → ((a : ℕ) → testFor a rows ≡ false) → P (answered (opening moved slots) Done))
       → P (opens n slots time)
   unfolding opens withClock
   open-cases P refused late done =

@@ -1,4 +1,4 @@
--- An election opened: document 01, "Election", its first paragraph. Past the refusals now is the clock.
+-- An election opened: document 01, "Election", its first paragraph, and document 02, [3]. Past the refusals now is the clock.
 use Prim.Native.Nat.{ℕ, _+_}
 use mathlib.Core.Bool.{Bool, false, not}
 use mathlib.Core.List.{List, [], _∷_, _++_}
@@ -10,7 +10,7 @@ use Rattle.ages.specs.Ages.{age, openingYoung}
 use Rattle.nodesets.specs.NodeSets.{none}
 use Rattle.answers.specs.declared.Answer.{Answer}
 use Rattle.answers.specs.declared.Answer.the-variants.{Done, BeforeClock, OutOfBounds, AtTheTop, NotReplica, OwnMasterNotFailed, OwnMasterEmpty, ElectionYoung}
-use Rattle.state.specs.Node.{recordAt, masters, isMaster, isFail, roleAt, followed, owns}
+use Rattle.state.specs.Node.{recordAt, isMaster, isFail, roleAt, followed, owns, votingMasters}
 use Rattle.state.specs.Changes.{withCurrent, withClock, withElection}
 use Rattle.state.specs.Outcomes.{answered}
 use Rattle.state.specs.declared.Node.{Node}
@@ -35,13 +35,13 @@ openChecks n slots role =
     ∷ (leb top (n .current), AtTheTop)
     ∷ []
 
--- it replaces any older one: currentEpoch goes up by 1 and is its epoch, its set is the masters listed, none heard
-unfoldable pub opening : Node → Node
-opening n = withElection (Open (n .current + 1) (n .clock) (masters n) none) (withCurrent (n .current + 1) n)
+-- it replaces any older one: currentEpoch goes up by 1 and is its epoch, its set is the voting masters by the table, none heard
+unfoldable pub opening : Node → List ℕ → Node
+opening n slots = withElection (Open (n .current + 1) (n .clock) (votingMasters n slots) none) (withCurrent (n .current + 1) n)
 
 -- past the refusals, with the clock moved
 abbrev pub standing : Node → List ℕ → Outcome
-standing n slots = checked (answered n) (openChecks n slots (roleAt n (n .me))) (answered (opening n) Done)
+standing n slots = checked (answered n) (openChecks n slots (roleAt n (n .me))) (answered (opening n slots) Done)
 
 -- 5 and 4
 abbrev pub timeChecks : Node → ℕ → List (Bool × Answer)

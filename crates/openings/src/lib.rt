@@ -1,4 +1,4 @@
-// An election opened: document 01, "Election".
+// An election opened: document 01, "Election", and document 02, [3].
 ghost use mathlib.Core.Path.{_≡_};
 ghost use mathlib.Core.Bool.{true};
 ghost use Prim.Native.Nat.{_<_};
@@ -56,12 +56,14 @@ fn open_refusal(node: Node, slots: &[u16], role: Role, flag: Flag) -> Check
 }
 
 // The next epoch's election. The checks have shown that there is a next epoch.
-fn opening(node: Node) -> Node
+fn opening(node: Node, slots: &[u16]) -> Node
     requires { ⌜ node .current < top ⌝ }
-    ensures { λ r. ⌜ r ≡ opening node ⌝ }
+    ensures { λ r. ⌜ r ≡ opening node (now (slots .entry)) ⌝ }
 {
     let epoch = node.current + 1;
-    let voters = state::masters(node);
+    let masters = state::masters(node);
+    let owners = nodesets::among(slots);
+    let voters = nodesets::both(masters, owners);
     let heard = nodesets::none();
     let next = changes::with_current(node, epoch);
     changes::with_election(
@@ -91,7 +93,7 @@ fn standing(node: Node, slots: &[u16]) -> Outcome
         Check::Refused(answer) => Outcome { answer, node },
         Check::Passed => Outcome {
             answer: Answer::Done,
-            node: opening(node),
+            node: opening(node, slots),
         },
     }
 }

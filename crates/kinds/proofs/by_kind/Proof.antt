@@ -68,41 +68,47 @@ returns c = simp (← c .before .before .heartbeat .ensures, c .before .before .
 same-length-2 : tie.Need-same-length-2
 same-length-2 c = search needs
 
+same-length-3 : tie.Need-same-length-3
+same-length-3 c = search needs
+
 returns-2 : tie.Need-returns-2
 unfolding onKind
-returns-2 c = simp (← c .done .ensures, ← c .before .before .before .report .ensures, c .before .before .before .before .before .before .kind2 .given .1)
+returns-2 c = simp (← c .done .ensures, ← c .before .before .before .report .ensures, c .before .before .before .before .before .before .before .kind2 .given .1)
 
 returns-3 : tie.Need-returns-3
 unfolding onKind
 returns-3 c = simp (← c .done2 .ensures, ← c .before .fail .ensures, c .before .before .before .kind3 .given .1)
 
-same-length-3 : tie.Need-same-length-3
-same-length-3 c = search needs
+same-length-4 : tie.Need-same-length-4
+same-length-4 c = search needs
 
 returns-4 : tie.Need-returns-4
 unfolding onKind
 returns-4 c = simp (← c .request .ensures, c .before .before .before .kind4 .given .1)
 
-same-length-4 : tie.Need-same-length-4
-same-length-4 c = search needs
+same-length-5 : tie.Need-same-length-5
+same-length-5 c = search needs
 
 returns-5 : tie.Need-returns-5
 unfolding onKind
 returns-5 c = simp (← c .before .before .ack .ensures, c .before .before .before .before .before .kind5 .given .1)
 
-same-length-5 : tie.Need-same-length-5
-same-length-5 c = search needs
+same-length-6 : tie.Need-same-length-6
+same-length-6 c = search needs
 
 returns-6 : tie.Need-returns-6
 unfolding onKind
 returns-6 c = simp (← c .done3 .ensures, ← c .before .probe .ensures, c .before .before .before .before .kind6 .given .1)
 
-same-length-6 : tie.Need-same-length-6
-same-length-6 c = search needs
+same-length-7 : tie.Need-same-length-7
+same-length-7 c = search needs
+
+same-length-8 : tie.Need-same-length-8
+same-length-8 c = search needs
 
 returns-7 : tie.Need-returns-7
 unfolding onKind
-returns-7 c = simp (← c .done4 .ensures, ← c .before .tick .ensures, c .before .before .before .enum-told .given .1)
+returns-7 c = simp (← c .done4 .ensures, ← c .before .tick .ensures, c .before .before .before .before .enum-told .given .1)
 
 pub by-kind-spec : {M : Type 1} → statement M
 by-kind-spec =
@@ -129,13 +135,15 @@ by-kind-spec =
     same-length
     returns
     same-length-2
+    same-length-3
     returns-2
     returns-3
-    same-length-3
-    returns-4
     same-length-4
-    returns-5
+    returns-4
     same-length-5
-    returns-6
+    returns-5
     same-length-6
+    returns-6
+    same-length-7
+    same-length-8
     returns-7)

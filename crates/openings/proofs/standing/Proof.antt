@@ -16,7 +16,7 @@ use Rattle.openings.proofs.standing.Tie as tie
 
 -- the definition, by what the checks came to
 told : (c : tie.After-open-refusal) → let a = c .before .before .before .before .before .args in
-    standing (a .t1) (a .slots .now) ≡ onCheck (answered (a .t1)) (answered (opening (a .t1)) Done) (c .open-refusal .result)
+    standing (a .t1) (a .slots .now) ≡ onCheck (answered (a .t1)) (answered (opening (a .t1) (a .slots .now)) Done) (c .open-refusal .result)
 told c = let a = c .before .before .before .before .before .args in
     rw (lt-ltb (a .t1 .me) (a .t1 .size) (me-listed (a .t1) (c .before .before .before .before .before .pre))) (by-check (answered (a .t1)) (openChecks (a .t1) (a .slots .now) (recordAt (a .t1) (a .t1 .me) .role)) _ ∙ ap (onCheck (answered (a .t1)) _) (sym (c .open-refusal .ensures)))
 

@@ -14,7 +14,8 @@ use Rattle.state.specs.Changes.{withRecords}
 use Rattle.state.specs.declared.Record.{Record}
 use Rattle.failure.specs.Failure.{lookedAt}
 use Rattle.probes.specs.Probes.{suspected}
-use Rattle.failure.proofs.Masters.{gathers, voting-both}
+use Rattle.state.proofs.Voting.{voting-both}
+use Rattle.failure.proofs.Masters.{gathers}
 use Rattle.probes.proofs.Ticks.{master-then, both-loops, room-kept, NonePfail, still, none-more, none-looked}
 use borrow.Author.Needs.{needs}
 use Rattle.probes.proofs.tick.Statement.{statement}
@@ -97,8 +98,8 @@ loop-again c =
       rw (c .with-flag .ensures, q .before .flag-if-unanswered .ensures) refl ∙ ap (suspected (l .k)) (l .inv .1) ∙ sym (in-turn-more suspected (l .k) n),
       subst (Gathered (masterAt n) (l .k + 1)) (sym (q .before .before .with-master .ensures)) (gathers (masterAt n) (l .k) (l .masters) (recordAt (l .next) (l .k) .role) h (master-then n (l .next) (l .k) g (l .inv .1)) (l .inv .2)),
       λ e.
-        let p = still (l .quiet) _ (sym (q .quiet-with .ensures) ∙ e) in
-        none-more (l .next) (l .k) _ (omega (arith, h, long s, room-kept n (l .next) (l .k) (l .inv .1))) (l .inv .3 (p .1)) (ap (λ (r : Record). isPfail (r .flag)) (c .with-flag .ensures) ∙ p .0),
+          let p = still (l .quiet) _ (sym (q .quiet-with .ensures) ∙ e) in
+          none-more (l .next) (l .k) _ (omega (arith, h, long s, room-kept n (l .next) (l .k) (l .inv .1))) (l .inv .3 (p .1)) (ap (λ (r : Record). isPfail (r .flag)) (c .with-flag .ensures) ∙ p .0),
     )
 
 returns : tie.Need-returns Inv-loop μ-loop Inv-loop2 μ-loop2

@@ -11,7 +11,8 @@ use Rattle.state.specs.Changes.{withRecords}
 use Rattle.failure.specs.Failure.{lookedAt}
 use Rattle.failure.proofs.Records.{record-out}
 use Rattle.failure.proofs.Keeps.{looked-alone}
-use Rattle.failure.proofs.Masters.{gathers, voting-both}
+use Rattle.state.proofs.Voting.{voting-both}
+use Rattle.failure.proofs.Masters.{gathers}
 use borrow.Author.Needs.{needs}
 use Rattle.reports.proofs.look_at.Statement.{statement}
 use Rattle.reports.proofs.look_at.Tie as tie
