@@ -6,10 +6,14 @@ use Prim.Native.Nat.{ℕ, zero, suc, _+_, _≤_, _<_}
 use native.Mathlib.Nat.{add-zero, add-suc, suc-add, le-of-suc-le-suc, not-suc-le-zero}
 use native.Mathlib.Numerals.{add-one}
 use native.Mathlib.Omega.{arith}
+use lib.Dec.{eqb}
 use lib.ListN.{length, take, drop, getD, set, drop-of-length-le}
 use lib.Seq.{drop-cons, take-suc, take-suc-set, drop-set-lt, take-all, append-snoc}
-use Rattle.tables.specs.Lists.{mapFrom, countFrom, firstFrom}
+use borrow.Author.Tests.{eqb-true, eq-eqb}
+use Rattle.tables.specs.Lists.{mapFrom, countFrom, firstFrom, isFound, occurs}
+use Rattle.tables.specs.declared.Found.{Found}
 use Rattle.tables.specs.declared.Found.the-variants.{Nothing, At}
+use Rattle.tables.proofs.Checks.{never}
 
 -- ---- a turn at place s: the list l became m, v at s
 
@@ -156,6 +160,30 @@ none-found p i [] f = refl
 none-found p i (x ∷ xs) f =
     let z : p i x ≡ false = rw (add-zero i) at (f 0 (omega arith)) in
     rw z (none-found p (suc i) xs (λ k h. rw (suc-add i k, ← add-suc i k) (f (suc k) (omega arith))))
+
+-- ---- a number occurs in a table exactly when some place has it
+
+pub record HasPlace (xs : List ℕ) (v : ℕ) : Type 0 where
+  pub place : ℕ
+  pub within : place < length xs
+  pub there : getD xs place 0 ≡ v
+
+pub occurs-exactly : (xs : List ℕ) (v : ℕ) → (occurs xs v ≡ true → HasPlace xs v) × (HasPlace xs v → occurs xs v ≡ true)
+unfolding firstFrom
+occurs-exactly xs v = (found 0 xs, λ h. by h (firstFrom (λ place entry. eqb entry v) 0 xs) refl)
+  where
+    found : (i : ℕ) (xs : List ℕ) → isFound (firstFrom (λ place entry. eqb entry v) i xs) ≡ true → HasPlace xs v
+    found i [] e = never (sym e)
+    found i (x ∷ xs) e = go (eqb x v) refl (found (suc i) xs) e
+      where
+        go : (t : Bool) → eqb x v ≡ t → (isFound (firstFrom (λ place entry. eqb entry v) (suc i) xs) ≡ true → HasPlace xs v)
+            → isFound (cond t (At i) (firstFrom (λ place entry. eqb entry v) (suc i) xs)) ≡ true → HasPlace (x ∷ xs) v
+        go true q f e = record { place = 0; within = omega arith; there = eqb-true x v q }
+        go false q f e = let h = f e in record { place = suc (h .place); within = omega (arith, h .within); there = h .there }
+
+    by : HasPlace xs v → (f : Found) → firstFrom (λ place entry. eqb entry v) 0 xs ≡ f → isFound f ≡ true
+    by h (At s) e = refl
+    by h Nothing e = never (sym (eq-eqb _ v (h .there)) ∙ none-passes (λ place entry. eqb entry v) 0 xs e (h .place) (h .within))
 
 -- ---- a table rewritten from the front
 
