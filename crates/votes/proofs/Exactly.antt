@@ -1,7 +1,7 @@
--- A vote is granted exactly when document 01's conditions hold.
+-- A vote is granted exactly when the conditions of documents 01 and 02 hold.
 use mathlib.Core.Path.{_≡_, refl, sym, ap, _∙_}
 use mathlib.Core.Bool.{Bool, true, false, cond}
-use mathlib.Core.List.{List}
+use mathlib.Core.List.{List, [], _∷_}
 use Prim.Native.Nat.{ℕ, _*_, _≤_, _<_}
 use native.Mathlib.Nat.{zero-add}
 use native.Mathlib.Omega.{arith}
@@ -16,7 +16,7 @@ use Rattle.claims.specs.Claims.{empty}
 use Rattle.tables.specs.declared.Found.the-variants.{Nothing}
 use Rattle.answers.specs.declared.Answer.{Answer}
 use Rattle.answers.specs.declared.Answer.the-variants.{Granted}
-use Rattle.state.specs.Node.{recordAt, masterAt, isMaster, isFail, listed, roleAt, followed}
+use Rattle.state.specs.Node.{recordAt, masterAt, isMaster, isFail, owns, votingMaster, roleAt, followed}
 use Rattle.state.specs.Outcomes.{answered}
 use Rattle.state.specs.declared.Node.{Node}
 use Rattle.state.specs.declared.Role.{Role}
@@ -28,8 +28,8 @@ use Rattle.state.specs.declared.Moment.the-variants.{Never, At}
 use Rattle.state.specs.declared.Outcome.{Outcome}
 use Rattle.votes.specs.Votes.{followsMaster, lately, requestChecks, newer, granted, byOwners, requested}
 use Rattle.votes.specs.Grants.{ListedMaster, ListedReplica, Grantable}
-use Rattle.tables.proofs.Checks.{never}
-use Rattle.tables.proofs.Walks.{none-passes, none-found}
+use Rattle.tables.proofs.Checks.{never, part}
+use Rattle.tables.proofs.Walks.{HasPlace, none-passes, none-found, occurs-exactly}
 use Rattle.answers.proofs.Checks.{refuses}
 use Rattle.claims.proofs.Claims.{empty-exactly}
 use Rattle.votes.proofs.Steps.{Unrefused, request-cases}
@@ -64,6 +64,9 @@ owner-old n bitmap config slot owner e c l = ltb-false config (recordAt n owner 
 
 tests-master : (n : Node) (k : ℕ) → ListedMaster n k → masterAt n k ≡ true
 tests-master n k l = rw (lt-ltb k (n .size) (l .listed), l .master)
+
+tests-voting : (n : Node) (slots : List ℕ) (k : ℕ) → ListedMaster n k → HasPlace slots k → votingMaster n slots k ≡ true
+tests-voting n slots k l h = rw (tests-master n k l) (occurs-exactly slots k .1 h)
 
 tests-role : (n : Node) (k m : ℕ) → ListedReplica n k m → roleAt n k ≡ Replica m
 tests-role n k m l = rw (lt-ltb k (n .size) (l .listed)) (l .replica)
@@ -110,9 +113,15 @@ module _ (n : Node) (slots bitmap : List ℕ) (candidate epoch config : ℕ) whe
           let d : followed (roleAt n candidate) ≡ m = ap followed q in
           let s = since m (recordAt n m .flag) refl (rw d at f) in
           let claim = empty-exactly bitmap .some (p 18) in
+          let voting : votingMaster n slots (n .me) ≡ true = not-false _ (p 11) in
+          let tests = masterAt n (n .me) ∷ owns slots (n .me) ∷ [] in
+          let place = occurs-exactly slots (n .me) .0 (part 1 tests voting) in
           let v : lately n (recordAt n (followed (roleAt n candidate)) .vote) ≡ false = p 16 in
           record {
-            own = is-master n (n .me) (not-false _ (p 11));
+            own = is-master n (n .me) (part 0 tests voting);
+            own-slot = place .place;
+            owned = place .within;
+            mine = place .there;
             current = ltb-false epoch (n .current) (p 12);
             unvoted = leb-false epoch (n .voted) (p 13);
             m = m;
@@ -131,8 +140,8 @@ module _ (n : Node) (slots bitmap : List ℕ) (candidate epoch config : ℕ) whe
   grants g =
       let q = tests-role n candidate (g .m) (g .candidate-follows) in
       let f : firstAt (newer n bitmap config) slots ≡ Nothing = none-found (newer n bitmap config) 0 slots (λ k l. rw (zero-add k) (tests-owner n bitmap config k (getD slots k 0) (g .owners k l))) in
-      ap (λ (r : Role). checked (answered n) (requestChecks n r bitmap epoch) (byOwners n (followed r) epoch (firstAt (newer n bitmap config) slots))) q
-      ∙ (rw (tests-master n (n .me) (g .own), le-ltb epoch (n .current) (g .current), lt-leb epoch (n .voted) (g .unvoted), tests-master n (g .m) (g .master), tests-claim bitmap (g .slot) (g .claims), g .fail, tests-rest n (recordAt n (g .m) .vote) (g .rested), f))
+      ap (λ (r : Role). checked (answered n) (requestChecks n slots r bitmap epoch) (byOwners n (followed r) epoch (firstAt (newer n bitmap config) slots))) q
+      ∙ (rw (tests-voting n slots (n .me) (g .own) (record { place = g .own-slot; within = g .owned; there = g .mine }), le-ltb epoch (n .current) (g .current), lt-leb epoch (n .voted) (g .unvoted), tests-master n (g .m) (g .master), tests-claim bitmap (g .slot) (g .claims), g .fail, tests-rest n (recordAt n (g .m) .vote) (g .rested), f))
       ∙ ap (λ (r : Role). answered (granted (followed r) epoch n) Granted) (sym q)
 
   -- the answer is 10 exactly when every condition holds

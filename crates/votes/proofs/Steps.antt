@@ -6,7 +6,7 @@ use Prim.Native.Nat.{ℕ}
 use lib.Dec.{T, ltb}
 use lib.ListN.{length, getD, set}
 use borrow.Author.Tests.{ltb-true}
-use Rattle.tables.specs.Checks.{allOf}
+use Rattle.tables.specs.Checks.{checked, allOf}
 use Rattle.tables.specs.Lists.{firstAt}
 use Rattle.tables.specs.Sizes.{nodeRoom}
 use Rattle.tables.specs.Sets.{claimed}
@@ -16,13 +16,14 @@ use Rattle.tables.specs.declared.Found.the-variants.{Nothing, At as Slot}
 use Rattle.answers.specs.declared.Answer.{Answer}
 use Rattle.answers.specs.declared.Answer.the-variants.{Granted, Outdated}
 use Rattle.answers.specs.declared.Check.{Check}
-use Rattle.answers.specs.declared.Check.the-variants.{Passed}
-use Rattle.answers.proofs.Checks.{onCheck, testFor, refuses, past}
+use Rattle.answers.specs.declared.Check.the-variants.{Passed, Refused}
+use Rattle.answers.proofs.Checks.{onCheck, by-check, testFor, refuses, past}
 use Rattle.state.specs.Node.{blank, recordAt, roleAt, followed}
 use Rattle.state.specs.Changes.{withVote, withVoted, withRecords}
 use Rattle.state.specs.Outcomes.{answered}
 use Rattle.state.specs.declared.Node.{Node}
 use Rattle.state.specs.declared.Record.{Record}
+use Rattle.state.specs.declared.Role.{Role}
 use Rattle.state.specs.declared.Moment.the-variants.{At}
 use Rattle.state.specs.declared.Outcome.{Outcome}
 use Rattle.records.specs.Known.{knownConfigs, inRoom, placeOf}
@@ -38,7 +39,7 @@ refused-is false e = never (sym e)
 
 module _ (n : Node) (slots bitmap : List ℕ) (candidate epoch config : ℕ) where
   abbrev pub rows : List (Bool × Answer)
-  rows = requestChecks n (roleAt n candidate) bitmap epoch
+  rows = requestChecks n slots (roleAt n candidate) bitmap epoch
 
   -- no check applied, each by the number of its answer
   abbrev pub Unrefused : Type 0
@@ -56,6 +57,12 @@ module _ (n : Node) (slots bitmap : List ℕ) (candidate epoch config : ℕ) whe
       last : Unrefused → (f : Found) → firstAt (newer n bitmap config) slots ≡ f → P (byOwners n (followed (roleAt n candidate)) epoch f)
       last p Nothing e = grants p e
       last p (Slot slot) e = refused (Outdated slot) tt
+
+  -- a vote request by what its checks came to, for a candidate of that role
+  pub by-checks : (role : Role) (check : Check) → role ≡ roleAt n candidate → check ≡ checked Refused (requestChecks n slots role bitmap epoch) Passed
+      → requested n slots bitmap candidate epoch config ≡ onCheck (answered n) (byOwners n (followed role) epoch (firstAt (newer n bitmap config) slots)) check
+  unfolding requested
+  by-checks role check e q = rw (← e, q) (by-check (answered n) (requestChecks n slots role bitmap epoch) _)
 
 -- what the search found by the configEpochs that were collected, it found by the records
 pub by-records : (n : Node) (configs slots bitmap : List ℕ) (config : ℕ) (found : Found) → configs ≡ knownConfigs (n .size) (n .records) → found ≡ firstAt (newerOwner (n .size) (λ o. getD configs o 0) bitmap config) slots → found ≡ firstAt (newer n bitmap config) slots

@@ -1,5 +1,5 @@
--- When a vote is granted: the conditions of document 01, "Vote request", and of document 02, [10], each as a statement; and
--- what a request makes of the node. Now is the clock.
+-- When a vote is granted: the conditions of document 01, "Vote request", and of document 02, [3] and [10], each as a
+-- statement; and what a request makes of the node. Now is the clock.
 use Prim.Native.Nat.{ℕ, _*_, _≤_, _<_}
 use mathlib.Core.Path.{_≡_}
 use mathlib.Core.Bool.{true}
@@ -30,6 +30,10 @@ pub record ListedReplica (n : Node) (k m : ℕ) : Type 0 where
 pub record Grantable (n : Node) (slots bitmap : List ℕ) (candidate epoch config : ℕ) : Type 0 where
   -- this node is a master
   pub own : ListedMaster n (n .me)
+  -- and owns some slot of the table
+  pub own-slot : ℕ
+  pub owned : own-slot < length slots
+  pub mine : getD slots own-slot 0 ≡ n .me
   -- the epoch is not below currentEpoch, and above lastVoteEpoch
   pub current : n .current ≤ epoch
   pub unvoted : n .voted < epoch

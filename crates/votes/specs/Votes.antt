@@ -1,4 +1,4 @@
--- A vote request, past the refusals: document 01, "Vote request", and document 02, [10]. Now is the clock.
+-- A vote request, past the refusals: document 01, "Vote request", and document 02, [3] and [10]. Now is the clock.
 use Prim.Native.Nat.{ℕ}
 use mathlib.Core.Bool.{Bool, false, not}
 use mathlib.Core.List.{List, [], _∷_}
@@ -11,7 +11,7 @@ use Rattle.ages.specs.Ages.{age, underTwice}
 use Rattle.claims.specs.Claims.{empty, newerOwner}
 use Rattle.answers.specs.declared.Answer.{Answer}
 use Rattle.answers.specs.declared.Answer.the-variants.{Granted, NotMaster, StaleEpoch, AlreadyVoted, NoListedMaster, ClaimsNothing, MasterNotFailed, VotedLately, Outdated}
-use Rattle.state.specs.Node.{recordAt, masterAt, isFail, roleAt, followed}
+use Rattle.state.specs.Node.{recordAt, masterAt, votingMaster, isFail, roleAt, followed}
 use Rattle.state.specs.Changes.{withVote, withVoted, onRecord}
 use Rattle.state.specs.Outcomes.{answered}
 use Rattle.state.specs.declared.Node.{Node}
@@ -31,10 +31,10 @@ abbrev pub lately : Node → Moment → Bool
 lately n Never = false
 lately n (At t) = underTwice (n .timeout) (age (n .clock) t)
 
--- 11 to 14, 18, 15 and 16, in that order, for a candidate of that role
-abbrev pub requestChecks : Node → Role → List ℕ → ℕ → List (Bool × Answer)
-requestChecks n role bitmap epoch =
-    (not (masterAt n (n .me)), NotMaster)
+-- 11 to 14, 18, 15 and 16, in that order, by the slot table lent and for a candidate of that role
+abbrev pub requestChecks : Node → List ℕ → Role → List ℕ → ℕ → List (Bool × Answer)
+requestChecks n slots role bitmap epoch =
+    (not (votingMaster n slots (n .me)), NotMaster)
     ∷ (ltb epoch (n .current), StaleEpoch)
     ∷ (leb epoch (n .voted), AlreadyVoted)
     ∷ (not (followsMaster n role), NoListedMaster)
@@ -59,4 +59,4 @@ byOwners n m epoch Nothing = answered (granted m epoch n) Granted
 unfoldable pub requested : Node → List ℕ → List ℕ → ℕ → ℕ → ℕ → Outcome
 requested n slots bitmap candidate epoch config =
     let role = roleAt n candidate in
-    checked (answered n) (requestChecks n role bitmap epoch) (byOwners n (followed role) epoch (firstAt (newer n bitmap config) slots))
+    checked (answered n) (requestChecks n slots role bitmap epoch) (byOwners n (followed role) epoch (firstAt (newer n bitmap config) slots))

@@ -1,9 +1,9 @@
-// A vote request: document 01, "Vote request", and document 02, [10]. The node is copied once and changed in place; a struct that is handed on costs a
-// copy, so the functions here take the node for its numbers and the records beside it.
+// A vote request: document 01, "Vote request", and document 02, [3] and [10]. The node is copied once and changed in place; a
+// struct that is handed on costs a copy, so the functions here take the node for its numbers and the records beside it.
 ghost use mathlib.Core.Path.{_≡_};
 ghost use Rattle.tables.specs.Checks.{checked};
 ghost use Rattle.answers.specs.declared.Check.the-variants.{Passed, Refused};
-ghost use Rattle.state.specs.Node.{recordAt, roleAt, followed};
+ghost use Rattle.state.specs.Node.{recordAt, votingMaster, roleAt, followed};
 ghost use Rattle.votes.specs.Votes.{followsMaster, lately, requestChecks, requested};
 use answers::Answer;
 use answers::Check;
@@ -53,24 +53,36 @@ fn lately(node: Node, vote: Moment) -> bool
     }
 }
 
-// 11 to 16 and 18, by what is known of this node and of the one that the candidate follows.
+// Whether this node is a voting master, by what is known of it. The table is asked last: that may read all of it.
+fn is_voting(node: Node, mine: Record, slots: &[u16]) -> bool
+    requires { ⌜ mine ≡ recordAt node (node .me) ⌝ }
+    ensures { λ r. ⌜ r ≡ votingMaster node (now (slots .entry)) (node .me) ⌝ }
+{
+    if node.me >= node.size {
+        return false;
+    }
+    let own = mine.role;
+    if state::is_master(own) {} else {
+        return false;
+    }
+    state::owns(slots, node.me)
+}
+
+// 11 to 16 and 18, by what is known of this node and of the one that the candidate follows, and by the slot table.
 fn request_refusal(
     node: Node,
     mine: Record,
     role: Role,
     known: Record,
+    slots: &[u16],
     bitmap: &[u8],
     epoch: u64,
 ) -> Check
     requires { ⌜ mine ≡ recordAt node (node .me) ⌝ }
     requires { ⌜ known ≡ recordAt node (followed role) ⌝ }
-    ensures { λ r. ⌜ r ≡ checked Refused (requestChecks node role (now (bitmap .entry)) epoch) Passed ⌝ }
+    ensures { λ r. ⌜ r ≡ checked Refused (requestChecks node (now (slots .entry)) role (now (bitmap .entry)) epoch) Passed ⌝ }
 {
-    if node.me >= node.size {
-        return Check::Refused(Answer::NotMaster);
-    }
-    let own = mine.role;
-    if !state::is_master(own) {
+    if !is_voting(node, mine, slots) {
         return Check::Refused(Answer::NotMaster);
     }
     if epoch < node.current {
@@ -119,7 +131,7 @@ pub fn request(
     let at = records::place_of(m);
     let there = next.records[at];
     let known = records::known_of(m, there);
-    let check = request_refusal(next, mine, role, known, bitmap, epoch);
+    let check = request_refusal(next, mine, role, known, slots, bitmap, epoch);
     let mut answer = Answer::Granted;
     match check {
         Check::Refused(why) => answer = why,

@@ -6,15 +6,15 @@ use lib.ListN.{length, length-map}
 use Rattle.tables.specs.Lists.{firstAt}
 use Rattle.tables.specs.Sizes.{nodeRoom}
 use Rattle.answers.specs.declared.Answer.the-variants.{Granted}
-use Rattle.answers.proofs.Checks.{onCheck, by-check}
+use Rattle.answers.proofs.Checks.{onCheck}
 use Rattle.state.specs.Node.{followed}
 use Rattle.state.specs.Changes.{withRecords, withVoted}
 use Rattle.state.specs.Outcomes.{answered}
 use Rattle.state.specs.declared.Node.{Node}
 use Rattle.records.specs.Known.{knownConfigs}
 use Rattle.records.proofs.Known.{Collected, collected-none, collected-more, collected-all, place-inside, listed-inside, known-there}
-use Rattle.votes.specs.Votes.{requestChecks, newer, granted, byOwners, requested}
-use Rattle.votes.proofs.Steps.{by-records, passed, granted-there}
+use Rattle.votes.specs.Votes.{newer, granted, byOwners, requested}
+use Rattle.votes.proofs.Steps.{by-checks, by-records, passed, granted-there}
 use borrow.Author.Needs.{needs}
 use Rattle.votes.proofs.request.Statement.{statement}
 use Rattle.votes.proofs.request.Tie as tie
@@ -63,12 +63,11 @@ found c = let a = begun (checked-at (c .before)) .args in
     by-records (a .node) _ (a .slots .now) (a .bitmap .now) (a .config) _ (collected (c .before .before)) (c .first-newer .ensures)
 
 -- the definition, by what the checks came to
-by-checks : (c : tie.After-request-refusal Inv-loop μ-loop) → let a = begun c .args in
+refused-by : (c : tie.After-request-refusal Inv-loop μ-loop) → let a = begun c .args in
     requested (a .node) (a .slots .now) (a .bitmap .now) (a .candidate) (a .epoch) (a .config)
     ≡ onCheck (answered (a .node)) (byOwners (a .node) (followed (c .before .before .before .before .before .role-of .result)) (a .epoch) (firstAt (newer (a .node) (a .bitmap .now) (a .config)) (a .slots .now))) (c .request-refusal .result)
-unfolding requested
-by-checks c = let a = begun c .args in
-    rw (← c .before .before .before .before .before .role-of .ensures) (by-check (answered (a .node)) (requestChecks (a .node) (c .before .before .before .before .before .role-of .result) (a .bitmap .now) (a .epoch)) _ ∙ ap (onCheck (answered (a .node)) _) (sym (c .request-refusal .ensures)))
+refused-by c = let a = begun c .args in
+    by-checks (a .node) (a .slots .now) (a .bitmap .now) (a .candidate) (a .epoch) (a .config) _ _ (c .before .before .before .before .before .role-of .ensures) (c .request-refusal .ensures)
 
 cast-me : tie.Need-cast-me Inv-loop μ-loop
 cast-me c = search needs
@@ -183,16 +182,16 @@ element-set-from-next : tie.Need-element-set-from-next Inv-loop μ-loop
 element-set-from-next c = let h = at-inside (checked-at (c .before .before .before .before .before) .before .before .before) in omega arith
 
 returns : tie.Need-returns Inv-loop μ-loop
-returns c = sym (by-checks (c .before .before .before) ∙ rw (c .before .check .given .1))
+returns c = sym (refused-by (c .before .before .before) ∙ rw (c .before .check .given .1))
 
 returns-2 : tie.Need-returns-2 Inv-loop μ-loop
 returns-2 c = let f = c .before .before .before in
-    sym (by-checks (checked-at (f .before)) ∙ passed _ _ _ _ _ _ _ (f .before .before .before .before .before .enum-told .given .1) (found f) (c .before .slot .given .1))
+    sym (refused-by (checked-at (f .before)) ∙ passed _ _ _ _ _ _ _ (f .before .before .before .before .before .enum-told .given .1) (found f) (c .before .slot .given .1))
 
 returns-3 : tie.Need-returns-3 Inv-loop μ-loop
 unfolding withRecords withVoted
 returns-3 c = let f = c .before .before .before .before in let r = checked-at (f .before) in let s = begun r in
-    sym (by-checks r
+    sym (refused-by r
     ∙ passed _ _ _ _ _ _ _ (f .before .before .before .before .before .enum-told .given .1) (found f) (c .before .before .enum-told2 .given .1)
     ∙ ap (λ (m : ℕ). answered (granted m (s .args .epoch) (s .args .node)) Granted) (sym (r .before .before .before .before .followed .ensures))
     ∙ ap (λ (n : Node). answered n Granted) (sym (granted-there (s .args .node) (long s) (r .before .before .before .before .followed .result) (s .args .epoch) _ _ _ _ (r .before .before .before .place-of3 .ensures) refl (c .before .with-vote .ensures) (c .kept-of .ensures))))
