@@ -65,7 +65,7 @@ module _ (a b : Node) (e : Alike a b) (r : InRoster a) (slots reports bitmap : L
   kind-told (Request candidate) = requested-told a b e slots reports (r .followed) bitmap candidate (h .epoch) (h .config)
   kind-told (Ack voter candidate) = acked-told a b e (r .followed) slots reports voter candidate (h .epoch)
   kind-told (Probe subject echo) = answered-told _ _ (changes-alike a b e _ (probe-change slots subject echo)) slots reports answer.Done
-  kind-told Tick = answered-told _ _ (changes-alike a b e _ (tick-change reports)) slots reports answer.Done
+  kind-told Tick = answered-told _ _ (changes-alike a b e _ (tick-change slots reports)) slots reports answer.Done
 
 refusals-read : (d : Decoded) → Reads (λ n. frameRefusals n d)
 unfolding frameRefusals

@@ -30,7 +30,7 @@ use Rattle.openings.specs.Openings.{young, openChecks, opening, standing}
 use Rattle.wins.specs.Wins.{passes, Passing, handedOver}
 use Rattle.acks.specs.Acks.{ackChecks, passing, winner, promoted, won, counted, heardIn, acked}
 use Rattle.kinds.specs.Kinds.{keeping, slottedStep}
-use Rattle.sameness.proofs.Seen.{seen, Alike, bare, Reads, record-read, listed-read, master-read, role-read, masters-read, on, Changes, both-change, record-change, reads-alike, reads-where, changes-alike}
+use Rattle.sameness.proofs.Seen.{seen, Alike, bare, Reads, record-read, listed-read, master-read, role-read, voting-read, voters-read, on, Changes, both-change, record-change, reads-alike, reads-where, changes-alike}
 use Rattle.sameness.proofs.Told.{Told, answered-told, checked-told}
 
 -- ---- a vote request
@@ -44,8 +44,8 @@ lately-read Never n = refl
 lately-read (At t) n = refl
 
 -- 11 to 16 and 18, where whoever is followed is listed
-request-read : (role : Role) (bitmap : List ℕ) (epoch : ℕ) (n : Node) → followed role < n .size → requestChecks (bare (held n)) role bitmap epoch ≡ requestChecks n role bitmap epoch
-request-read role bitmap epoch n h = rw (master-read (n .me) n, follows-read role n, record-read (followed role) n h, lately-read (recordAt n (followed role) .vote) n)
+request-read : (slots : List ℕ) (role : Role) (bitmap : List ℕ) (epoch : ℕ) (n : Node) → followed role < n .size → requestChecks (bare (held n)) slots role bitmap epoch ≡ requestChecks n slots role bitmap epoch
+request-read slots role bitmap epoch n h = rw (voting-read slots (n .me) n, follows-read role n, record-read (followed role) n h, lately-read (recordAt n (followed role) .vote) n)
 
 -- 17
 newer-read : (bitmap : List ℕ) (config slot owner : ℕ) → Reads (λ n. newer n bitmap config slot owner)
@@ -71,7 +71,7 @@ module _ (a b : Node) (e : Alike a b) (slots reports : List ℕ) where
       subst₂ (λ (r : Role) (x : Found). Told (keeping slots reports (asked a (role a) (newest a))) (keeping slots reports (asked b r x)))
       (reads-alike a b e role (role-read candidate)) (reads-alike a b e newest (newest-read slots bitmap config))
       (checked-told (keeping slots reports) (answered a) (answered b) _ _
-      (reads-where a b e (λ s. followed (role a) < s .size) (listed candidate) (λ n. requestChecks n (role a) bitmap epoch) (request-read (role a) bitmap epoch)) _ _
+      (reads-where a b e (λ s. followed (role a) < s .size) (listed candidate) (λ n. requestChecks n slots (role a) bitmap epoch) (request-read slots (role a) bitmap epoch)) _ _
       (answered-told a b e slots reports) (λ p. owners-told (followed (role a)) epoch (newest a)))
     where
       role : Node → Role
@@ -81,7 +81,7 @@ module _ (a b : Node) (e : Alike a b) (slots reports : List ℕ) where
       newest n = firstAt (newer n bitmap config) slots
 
       asked : Node → Role → Found → Outcome
-      asked n r x = checked (answered n) (requestChecks n r bitmap epoch) (byOwners n (followed r) epoch x)
+      asked n r x = checked (answered n) (requestChecks n slots r bitmap epoch) (byOwners n (followed r) epoch x)
 
 -- ---- an opening
 
@@ -93,9 +93,9 @@ young-read (Open epoch opened voters heard) n = refl
 open-read : (slots : List ℕ) (role : Role) (n : Node) → followed role < n .size → openChecks (bare (held n)) slots role ≡ openChecks n slots role
 open-read slots role n h = rw (record-read (followed role) n h, young-read (n .election) n)
 
-opening-change : Changes opening
+opening-change : (slots : List ℕ) → Changes (λ n. opening n slots)
 unfolding opening withElection withCurrent
-opening-change n = λ i. on (λ m. withElection (Open (m .current + 1) (m .clock) (masters-read n i) none) (withCurrent (m .current + 1) m)) (seen n)
+opening-change slots n = λ i. on (λ m. withElection (Open (m .current + 1) (m .clock) (voters-read slots n i) none) (withCurrent (m .current + 1) m)) (seen n)
 
 module _ (a b : Node) (e : Alike a b) (slots reports : List ℕ) where
   pub standing-told : ((k : ℕ) → followed (roleAt a k) < a .size) → Told (keeping slots reports (standing a slots)) (keeping slots reports (standing b slots))
@@ -103,13 +103,13 @@ module _ (a b : Node) (e : Alike a b) (slots reports : List ℕ) where
       subst (λ (r : Role). Told (keeping slots reports (stood a (role a))) (keeping slots reports (stood b r))) (reads-alike a b e role (λ n. role-read (n .me) n))
       (checked-told (keeping slots reports) (answered a) (answered b) _ _
       (reads-where a b e (λ s. followed (role a) < s .size) (listed (a .me)) (λ n. openChecks n slots (role a)) (open-read slots (role a))) _ _
-      (answered-told a b e slots reports) (λ p. answered-told _ _ (changes-alike a b e opening opening-change) slots reports Done))
+      (answered-told a b e slots reports) (λ p. answered-told _ _ (changes-alike a b e (λ n. opening n slots) (opening-change slots)) slots reports Done))
     where
       role : Node → Role
       role n = roleAt n (n .me)
 
       stood : Node → Role → Outcome
-      stood n r = checked (answered n) (openChecks n slots r) (answered (opening n) Done)
+      stood n r = checked (answered n) (openChecks n slots r) (answered (opening n slots) Done)
 
 -- ---- an ack
 

@@ -5,7 +5,7 @@ use Prim.Native.Nat.{ℕ}
 use lib.ListN.{set}
 use Rattle.nodesets.specs.declared.NodeSet.{NodeSet}
 use Rattle.answers.specs.declared.Answer.the-variants.{Done}
-use Rattle.state.specs.Node.{masters}
+use Rattle.state.specs.Node.{votingMasters}
 use Rattle.state.specs.Changes.{withPing, withFlag}
 use Rattle.state.specs.declared.Node.{Node}
 use Rattle.state.specs.declared.Role.{Role}
@@ -20,7 +20,7 @@ use Rattle.failure.specs.Failure.{reportAt, stamp, recent, signals, mostSignal,
 use Rattle.probes.specs.Probes.{recovered, pongFlag, afterProbe, probed, unanswered, flagIfUnanswered, suspected, allSuspected, allLookedAt, ticked}
 use Rattle.reports.specs.Reports.{stored, reported, failFlag, failed}
 use Rattle.kinds.specs.Kinds.{reportedStep}
-use Rattle.sameness.proofs.Seen.{seen, Alike, Reads, masters-read, on, Changes, both-change, all-change, record-change, reads-alike, changes-alike}
+use Rattle.sameness.proofs.Seen.{seen, Alike, Reads, voters-read, on, Changes, both-change, all-change, record-change, reads-alike, changes-alike}
 use Rattle.sameness.proofs.Told.{Told, answered-told}
 
 -- ---- probes
@@ -42,9 +42,9 @@ probe-change slots s echo = record-change s (λ n. afterProbe n slots s echo) (p
 
 -- ---- the look at a node
 
-look-change : (ms : NodeSet) (reports : List ℕ) (s : ℕ) → Changes (lookedAt ms reports s)
+look-change : (voters : NodeSet) (reports : List ℕ) (s : ℕ) → Changes (lookedAt voters reports s)
 unfolding lookedAt flagIfSignalled mostSignal signals recent
-look-change ms reports s = record-change s (λ n r. withFlag (flagIfSignalled n ms reports s (r .flag)) r) (λ n. refl)
+look-change voters reports s = record-change s (λ n r. withFlag (flagIfSignalled n voters reports s (r .flag)) r) (λ n. refl)
 
 -- ---- ticks
 
@@ -52,11 +52,12 @@ suspect-change : (k : ℕ) → Changes (suspected k)
 unfolding suspected flagIfUnanswered unanswered
 suspect-change k = record-change k (λ n r. withFlag (flagIfUnanswered n k r) r) (λ n. refl)
 
-pub tick-change : (reports : List ℕ) → Changes (λ n. ticked n reports)
+pub tick-change : (slots reports : List ℕ) → Changes (λ n. ticked n slots reports)
 unfolding ticked allSuspected allLookedAt
-tick-change reports n =
-    (λ i. on (λ m. allLookedAt (masters-read n i) reports (allSuspected m)) (seen n))
-    ∙ both-change allSuspected (allLookedAt (masters n) reports) (λ m. all-change suspected suspect-change (m .size) m) (λ m. all-change (lookedAt (masters n) reports) (look-change (masters n) reports) (m .size) m) n
+tick-change slots reports n =
+    let voters = votingMasters n slots in
+    (λ i. on (λ m. allLookedAt (voters-read slots n i) reports (allSuspected m)) (seen n))
+    ∙ both-change allSuspected (allLookedAt voters reports) (λ m. all-change suspected suspect-change (m .size) m) (λ m. all-change (lookedAt voters reports) (look-change voters reports) (m .size) m) n
 
 -- ---- fail frames
 
@@ -70,20 +71,20 @@ fail-change s = record-change s (λ n r. withFlag (failFlag (n .clock) (r .flag)
 abbrev after : List ℕ → ℕ → ℕ → Node → List ℕ
 after reports reporter s n = set reports (reportAt s reporter) (stamp (n .clock))
 
-report-change : (reports : List ℕ) (reporter s : ℕ) → Changes (λ n. lookedAt (masters n) (after reports reporter s n) s n)
-report-change reports reporter s n = (λ i. on (λ m. lookedAt (masters-read n i) (after reports reporter s m) s m) (seen n)) ∙ look-change (masters n) (after reports reporter s n) s n
+report-change : (slots reports : List ℕ) (reporter s : ℕ) → Changes (λ n. lookedAt (votingMasters n slots) (after reports reporter s n) s n)
+report-change slots reports reporter s n = (λ i. on (λ m. lookedAt (voters-read slots n i) (after reports reporter s m) s m) (seen n)) ∙ look-change (votingMasters n slots) (after reports reporter s n) s n
 
 module _ (a b : Node) (e : Alike a b) (slots reports : List ℕ) (reporter s : ℕ) where
-  stored-told : Told (reportedStep slots (stored a reports reporter s)) (reportedStep slots (stored b reports reporter s))
+  stored-told : Told (reportedStep slots (stored a slots reports reporter s)) (reportedStep slots (stored b slots reports reporter s))
   unfolding stored
   stored-told = record {
     answer = refl;
-    node = changes-alike a b e (λ n. lookedAt (masters n) (after reports reporter s n) s n) (report-change reports reporter s);
+    node = changes-alike a b e (λ n. lookedAt (votingMasters n slots) (after reports reporter s n) s n) (report-change slots reports reporter s);
     slots = refl;
     reports = reads-alike a b e (after reports reporter s) (λ n. refl);
   }
 
-  pub reported-told : (said : Verdict) → Told (reportedStep slots (reported a reports reporter s said)) (reportedStep slots (reported b reports reporter s said))
+  pub reported-told : (said : Verdict) → Told (reportedStep slots (reported a slots reports reporter s said)) (reportedStep slots (reported b slots reports reporter s said))
   unfolding reported
   reported-told verdict.Fine = answered-told a b e slots reports Done
   reported-told verdict.Pfail = stored-told

@@ -1,6 +1,7 @@
 -- What a call sees of a node. Of two nodes of which the same is seen, what is read is equal, and what changes stays alike.
 use mathlib.Core.Path.{_≡_, refl, sym, ap, subst, fun-ext, _∙_}
 use mathlib.Core.Bool.{Bool, true, false, cond}
+use mathlib.Core.List.{List}
 use Prim.Native.Nat.{ℕ, zero, suc, _<_}
 use native.Mathlib.Decide.{decLt}
 use native.Mathlib.Omega.{arith}
@@ -10,7 +11,7 @@ use lib.Seq.{getD-take, take-set-lt, take-set-le, set-out}
 use borrow.Author.Tests.{ltb-true}
 use Rattle.tables.specs.Below.{inTurn}
 use Rattle.nodesets.specs.NodeSets.{gathered}
-use Rattle.state.specs.Node.{recordAt, blank, listed, isMaster, masterAt, masters, roleAt}
+use Rattle.state.specs.Node.{recordAt, blank, listed, isMaster, masterAt, roleAt, owns, votingMaster, votingMasters}
 use Rattle.state.specs.Changes.{withRecords, onRecord}
 use Rattle.state.specs.Same.{Held, held, Same}
 use Rattle.state.specs.declared.Node.{Node}
@@ -62,8 +63,11 @@ master-read k = listed-read (λ r. isMaster (r .role)) false k
 pub role-read : (k : ℕ) → Reads (λ n. roleAt n k)
 role-read k = listed-read (λ r. r .role) Master k
 
-pub masters-read : Reads masters
-masters-read n = ap gathered (fun-ext (λ k. master-read k n))
+pub voting-read : (slots : List ℕ) (k : ℕ) → Reads (λ n. votingMaster n slots k)
+voting-read slots k n = ap (λ (t : Bool). cond t (owns slots k) false) (master-read k n)
+
+pub voters-read : (slots : List ℕ) → Reads (λ n. votingMasters n slots)
+voters-read slots n = ap gathered (fun-ext (λ k. voting-read slots k n))
 
 -- ---- changing
 
