@@ -90,16 +90,16 @@ fn stored<const CHECKED: bool>() {
 /// Best times of one frame, in nanoseconds: the proved step, Rust, and Rust without the checks 1 and 7. One line is handed to
 /// a node again and again, for about two milliseconds a round. Of several each is handed to a fresh node, whose making is
 /// timed too: no processor learns to foresee them all.
-fn timed(roster: Roster, lines: &[Vec<u8>]) -> [f64; 3] {
+fn timed(roster: Roster, tables: &Tables, lines: &[Vec<u8>]) -> [f64; 3] {
     let frames = match lines {
         [line] => {
             let start = Instant::now();
-            proved(roster, &mut Tables::fresh(), line, 20);
+            proved(roster, &mut tables.clone(), line, 20);
             (20 * 2_000_000 / start.elapsed().as_nanos().max(1)).clamp(20, 2000) as usize
         }
         _ => 1,
     };
-    let (mut t, mut t2, mut t3) = (Tables::fresh(), Tables::fresh(), Tables::fresh());
+    let (mut t, mut t2, mut t3) = (tables.clone(), tables.clone(), tables.clone());
     let works: [&mut dyn FnMut(usize) -> u64; 3] = [
         &mut |i| proved(roster, &mut t, &lines[i], frames),
         &mut |i| plain::<true>(roster, &mut t2, &lines[i], frames),
@@ -112,12 +112,15 @@ fn main() {
     let mut numbers = Numbers::new(20261115);
     agree(&mut numbers);
     let heartbeat = |bits: u8| vec![long([1, 2, 0, 0], [9, 3, 5], |_| bits)];
+    // of these alone this node owns no slot
+    let empty = "vote request, answered 11";
     let kinds = [
         ("heartbeat, empty bitmap", heartbeat(0)),
         ("heartbeat, full bitmap", heartbeat(255)),
         ("heartbeat, every other slot", heartbeat(0x55)),
         ("heartbeat, random bitmaps", (0..16).map(|_| long([1, 2, 0, 0], [9, 3, 5], |_| numbers.next() as u8)).collect()),
         ("heartbeat refused with 3", vec![long([1, 99, 0, 0], [9, 3, 5], |_| 0)]),
+        (empty, vec![long([4, 3, 0, 0], [9, 3, 5], |_| 255)]),
         ("vote request, answered 15", vec![long([4, 3, 0, 0], [9, 3, 5], |_| 255)]),
         ("vote request, answered 18", vec![long([4, 3, 0, 0], [9, 3, 5], |_| 0)]),
         ("report", vec![short([2, 2, 3, 1], &[5])]),
@@ -138,7 +141,8 @@ fn main() {
         println!("a frame to a node of {who}");
         println!("{:<28} {:>12} {:>12} {:>8} {:>14} {:>8}", "", "proved, ns", "Rust, ns", "ratio", "unchecked, ns", "ratio");
         for (name, lines) in &kinds {
-            let [ours, checked, unchecked] = timed(roster, lines);
+            let tables = Tables::dealt(roster.size, (*name == empty).then_some(1));
+            let [ours, checked, unchecked] = timed(roster, &tables, lines);
             let ratios = [ours / checked, ours / unchecked];
             println!("{name:<28} {ours:>12.1} {checked:>12.1} {:>8.2} {unchecked:>14.1} {:>8.2}", ratios[0], ratios[1]);
             for (most, ratio) in most.iter_mut().zip(ratios) {

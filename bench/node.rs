@@ -19,6 +19,13 @@ impl Tables {
     pub fn fresh() -> Tables {
         Tables { slots: vec![65535; 16384], reports: vec![0; 4096] }
     }
+
+    /// The slots dealt out to nodes 0 to size - 1 in as many stretches, but for one node's: these go to the next.
+    pub fn dealt(size: u16, without: Option<u16>) -> Tables {
+        let stretch = |s: usize| (s * size as usize / 16384) as u16;
+        let owner = |k: u16| if Some(k) == without { (k + 1) % size } else { k };
+        Tables { slots: (0..16384).map(|s| owner(stretch(s))).collect(), ..Tables::fresh() }
+    }
 }
 
 pub const TOP: u64 = i64::MAX as u64;
@@ -196,19 +203,25 @@ impl Node {
         (time < self.clock).then_some(4)
     }
 
-    fn look_at(&mut self, reports: &[u64], k: usize) {
+    /// The masters that own some slot, a bit each, by one pass over the table.
+    fn voting(&self, slots: &[u16]) -> u64 {
+        let owners = slots.iter().filter(|owner| **owner < 64).fold(0, |set, owner| set | 1u64 << owner);
+        let master = |set, (k, known): (usize, &Known)| if known.follows.is_none() { set | 1u64 << k } else { set };
+        owners & self.known.iter().enumerate().fold(0, master)
+    }
+
+    fn look_at(&mut self, voters: u64, reports: &[u64], k: usize) {
         if self.known[k].flag != Flag::Pfail {
             return;
         }
         let recent = |stored: u64| stored != 0 && stored - 1 <= self.clock && self.clock - (stored - 1) <= 2 * self.timeout;
-        let (mut masters, mut signals) = (0, 0);
-        for (m, known) in self.known.iter().enumerate() {
-            if known.follows.is_none() {
-                masters += 1;
-                signals += (m == self.me as usize || m != k && recent(reports[64 * k + m])) as usize;
+        let mut signals = 0;
+        for m in 0..self.known.len() {
+            if voters >> m & 1 == 1 {
+                signals += (m == self.me as usize || m != k && recent(reports[64 * k + m])) as u32;
             }
         }
-        if 2 * signals > masters {
+        if 2 * signals > voters.count_ones() {
             self.known[k].flag = Flag::Fail(self.clock);
         }
     }
@@ -244,7 +257,7 @@ impl Node {
     }
 
     fn request(&mut self, slots: &[u16], bits: &[u8], candidate: usize, epoch: u64, config: u64) -> u64 {
-        if self.known[self.me as usize].follows.is_some() {
+        if self.known[self.me as usize].follows.is_some() || !slots.contains(&self.me) {
             return 11;
         }
         if epoch < self.current {
@@ -295,14 +308,17 @@ impl Node {
         }
     }
 
-    fn tick(&mut self, reports: &[u64]) {
+    fn tick(&mut self, slots: &[u16], reports: &[u64]) {
         let (me, clock, timeout) = (self.me as usize, self.clock, self.timeout);
         for (k, known) in self.known.iter_mut().enumerate() {
             if k != me && known.flag == Flag::Clear && known.ping.is_some_and(|p| clock - p > timeout) {
                 known.flag = Flag::Pfail;
             }
         }
-        (0..self.known.len()).for_each(|k| self.look_at(reports, k));
+        if self.known.iter().any(|known| known.flag == Flag::Pfail) {
+            let voters = self.voting(slots);
+            (0..self.known.len()).for_each(|k| self.look_at(voters, reports, k));
+        }
     }
 
     pub fn frame<const CHECKED: bool>(&mut self, t: &mut Tables, line: &[u8]) -> Answer {
@@ -331,14 +347,16 @@ impl Node {
             1 => return self.heartbeat(&mut t.slots, &b[28..], x, (y == 1).then_some(z), config),
             2 if z > 0 => {
                 t.reports[64 * y + x] = time + 1;
-                self.look_at(&t.reports, y);
+                if self.known[y].flag == Flag::Pfail {
+                    self.look_at(self.voting(&t.slots), &t.reports, y);
+                }
             }
             3 if !matches!(self.known[y].flag, Flag::Fail(_)) => self.known[y].flag = Flag::Fail(time),
             4 => return Answer::Is(self.request(&t.slots, &b[28..], x, current, config)),
             // node 1 is a master here, and opens no election
             5 => return Answer::Is(31),
             6 => self.probe(&t.slots, x, y == 1),
-            7 => self.tick(&t.reports),
+            7 => self.tick(&t.slots, &t.reports),
             _ => {}
         }
         Answer::Is(0)

@@ -21,7 +21,7 @@ plainAnswers =
     ∷ answer.FollowsItself
     ∷ answer.AtTheTop
     ∷ answer.Granted
-    ∷ answer.NotMaster
+    ∷ answer.NotVoting
     ∷ answer.StaleEpoch
     ∷ answer.AlreadyVoted
     ∷ answer.NoListedMaster
@@ -71,7 +71,7 @@ read-said answer.Unsound = refl
 read-said answer.FollowsItself = refl
 read-said answer.AtTheTop = refl
 read-said answer.Granted = refl
-read-said answer.NotMaster = refl
+read-said answer.NotVoting = refl
 read-said answer.StaleEpoch = refl
 read-said answer.AlreadyVoted = refl
 read-said answer.NoListedMaster = refl

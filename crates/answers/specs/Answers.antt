@@ -16,7 +16,7 @@ use Rattle.answers.specs.declared.Answer.the-variants.{
   FollowsItself,
   AtTheTop,
   Granted,
-  NotMaster,
+  NotVoting,
   StaleEpoch,
   AlreadyVoted,
   NoListedMaster,
@@ -70,7 +70,7 @@ said Unsound = plain 7
 said FollowsItself = plain 8
 said AtTheTop = plain 9
 said Granted = plain 10
-said NotMaster = plain 11
+said NotVoting = plain 11
 said StaleEpoch = plain 12
 said AlreadyVoted = plain 13
 said NoListedMaster = plain 14

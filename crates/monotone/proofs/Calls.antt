@@ -117,12 +117,12 @@ module _ (n : Node) (slots reports bitmap : List ℕ) (h : sound n ≡ true) (lo
   kind-moves : (header : Header) (kind : Kind) → isUnlisted (n .size) kind ≡ false → namesThisNode (n .me) kind ≡ false → Moves (world n slots reports) (left (onKind n slots reports bitmap header kind))
   unfolding onKind
   kind-moves header (Heartbeat sender role) l d = heard-moves n slots reports bitmap sender role (header .config) h (sender-listed (n .size) sender role l) (sender-other (n .me) sender role d) long z
-  kind-moves header (Report reporter subject verdict) l d = quiet _ _ (failure-quiet n _ (reported-kept n reports reporter subject verdict))
+  kind-moves header (Report reporter subject verdict) l d = quiet _ _ (failure-quiet n _ (reported-kept n slots reports reporter subject verdict))
   kind-moves header (Fail sender subject) l d = quiet _ _ (failure-quiet n _ (failed-kept n subject))
   kind-moves header (Request candidate) l d = quiet _ _ (vote-quiet n slots bitmap candidate (header .epoch) (header .config))
   kind-moves header (Ack voter candidate) l d = ack-moves n slots reports voter candidate (header .epoch) h long z
   kind-moves header (Probe subject echo) l d = quiet _ _ (failure-quiet n _ (probed-kept n slots subject echo))
-  kind-moves header Tick l d = quiet _ _ (failure-quiet n _ (ticked-kept n reports))
+  kind-moves header Tick l d = quiet _ _ (failure-quiet n _ (ticked-kept n slots reports))
 
 -- clock and currentEpoch are nothing that the theorem reads
 from-arrival : (time epoch : ℕ) (n : Node) (slots reports : List ℕ) (b : World) → Moves (world (arrived time epoch n) slots reports) b → Moves (world n slots reports) b

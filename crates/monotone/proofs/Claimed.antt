@@ -105,8 +105,8 @@ one-slot m s l = by (s / 8) refl
     by (suc i) e = rw (zeros m i) (bit-zero (s % 8))
 
 -- so that the first entry alone changes
-pub first-bound : (c : Claimant) (m k : ℕ) → c .size ≤ unowned → claim c (1 ∷ replicate m 0) (replicate (suc k) unowned) .slots ≡ c .sender ∷ replicate k unowned
+pub first-bound : (c : Claimant) (m : ℕ) (others : List ℕ) → c .size ≤ unowned → claim c (1 ∷ replicate m 0) (unowned ∷ others) .slots ≡ c .sender ∷ others
 unfolding claim mapFrom fate
-first-bound c m k h =
+first-bound c m others h =
     rw (le-ltb unowned (c .size) h) (ap (λ (l : List ℕ). c .sender ∷ l)
-    (map-kept (λ s o. entryAfter c (fateAt c (1 ∷ replicate m 0) s o) o) 1 (replicate k unowned) (λ s o l g. rw (one-slot m s l))))
+    (map-kept (λ s o. entryAfter c (fateAt c (1 ∷ replicate m 0) s o) o) 1 others (λ s o l g. rw (one-slot m s l))))

@@ -5,8 +5,6 @@ use mathlib.Core.List.{List, [], _∷_}
 use Prim.Native.Nat.{ℕ}
 use native.Mathlib.Omega.{arith}
 use lib.Count.{ones}
-use lib.ListN.{replicate}
-use Rattle.tables.specs.Sizes.{unowned}
 use Rattle.tables.specs.Below.{every}
 use Rattle.tables.specs.Lists.{mapFrom, countFrom, firstFrom}
 use Rattle.tables.specs.Sets.{wordOf, wordsFrom}
@@ -35,7 +33,7 @@ use Rattle.node.specs.Calls.{Call, opening}
 use Rattle.monotone.specs.Runs.{World, Step, after, run}
 use Rattle.monotone.specs.NeverSlidesBack.{epochOf, Owned, NeverSlidesBack}
 use Rattle.monotone.specs.Before.{before14}
-use Rattle.monotone.specs.Examples.{start, claims, fails, votes, opened, wins, beaten, back, winsAllTheSame, slot0, lastAnswer, PassesTwice, NothingPasses, SlidBack, restoredAs, restored, NotFromAnyState, Examples}
+use Rattle.monotone.specs.Examples.{others, start, claims, fails, votes, opened, wins, beaten, back, winsAllTheSame, slot0, lastAnswer, PassesTwice, NothingPasses, SlidBack, restoredAs, restored, NotFromAnyState, Examples}
 use Rattle.monotone.proofs.Claimed.{Heard, heard, Unwon, unwon, after-claim, before-claim, first-bound}
 use Rattle.monotone.proofs.Onward.{left}
 
@@ -43,7 +41,7 @@ use Rattle.monotone.proofs.Onward.{left}
 
 -- node 0 has claimed slot 0
 abbrev bound : World
-bound = record { node = heard start 0 1 .outcome .node; tables = record { slots = 0 ∷ replicate 16383 unowned; reports = start .tables .reports } }
+bound = record { node = heard start 0 1 .outcome .node; tables = record { slots = 0 ∷ others; reports = start .tables .reports } }
 
 -- the calls up to the last vote
 abbrev rest : List Call
@@ -114,9 +112,9 @@ computed = record {
 -- ---- the lists lead to them
 
 -- the table that the first claim leaves
-bound-slots : heard start 0 1 .slots ≡ 0 ∷ replicate 16383 unowned
+bound-slots : heard start 0 1 .slots ≡ 0 ∷ others
 unfolding start heartbeat withSender withRecords withCurrent withClock freshNode
-bound-slots = first-bound (claimant (knownConfigs (told .size) (told .records)) (told .size) 0 1) 2047 16383 (omega arith)
+bound-slots = first-bound (claimant (knownConfigs (told .size) (told .records)) (told .size) 0 1) 2047 others (omega arith)
   where
     told : Node
     told = withSender 0 Master 1 (arrived 0 1 (start .node))

@@ -1,13 +1,12 @@
 -- Computed lists: a slot passes twice, by a win and by a claim, each time to a greater configEpoch; a win whose old master rose
 -- after the opening, by which nothing passes, and by which ownership slid back before [14]; and one from a state that no list
--- leads to. This node is node 3 of the
--- cases of document 01, a replica of node 0; every time is 0. The latest call comes first.
+-- leads to. This node is node 3 of the cases of document 01, a replica of node 0; every time is 0. The latest call comes first.
 use Prim.Native.Nat.{ℕ}
 use mathlib.Core.Path.{_≡_}
 use mathlib.Core.Bool.{true}
 use mathlib.Core.List.{List, [], _∷_}
 use lib.ListN.{replicate}
-use Rattle.tables.specs.Sizes.{slotCount, reportCount, unowned}
+use Rattle.tables.specs.Sizes.{reportCount, unowned}
 use Rattle.answers.specs.declared.Answer.{Answer}
 use Rattle.answers.specs.declared.Answer.the-variants.{Won}
 use Rattle.state.specs.Node.{masterAt}
@@ -25,9 +24,12 @@ use Rattle.monotone.specs.Before.{before14}
 
 -- ---- the calls
 
--- nobody owns a slot, and nothing is reported
+-- nodes 1 and 2, whose votes are asked for, own slots 1 and 2, nobody another one, and nothing is reported
+abbrev pub others : List ℕ
+others = 1 ∷ 2 ∷ replicate 16381 unowned
+
 abbrev pub tables : Tables
-tables = record { slots = replicate slotCount unowned; reports = replicate reportCount 0 }
+tables = record { slots = unowned ∷ others; reports = replicate reportCount 0 }
 
 unfoldable pub start : World
 start = fresh roster 3 1000 tables
@@ -103,7 +105,7 @@ pub record SlidBack : Type 0 where
 abbrev pub restoredAs : World → World
 restoredAs w = record {
   node = withCurrent 5 (onRecord 3 (withConfig 5) (w .node));
-  tables = record { slots = 3 ∷ replicate 16383 unowned; reports = w .tables .reports };
+  tables = record { slots = 3 ∷ others; reports = w .tables .reports };
 }
 
 abbrev pub restored : World

@@ -10,7 +10,7 @@ use Rattle.tables.specs.declared.Found.the-variants.{Nothing, At as Slot}
 use Rattle.ages.specs.Ages.{age, underTwice}
 use Rattle.claims.specs.Claims.{empty, newerOwner}
 use Rattle.answers.specs.declared.Answer.{Answer}
-use Rattle.answers.specs.declared.Answer.the-variants.{Granted, NotMaster, StaleEpoch, AlreadyVoted, NoListedMaster, ClaimsNothing, MasterNotFailed, VotedLately, Outdated}
+use Rattle.answers.specs.declared.Answer.the-variants.{Granted, NotVoting, StaleEpoch, AlreadyVoted, NoListedMaster, ClaimsNothing, MasterNotFailed, VotedLately, Outdated}
 use Rattle.state.specs.Node.{recordAt, masterAt, votingMaster, isFail, roleAt, followed}
 use Rattle.state.specs.Changes.{withVote, withVoted, onRecord}
 use Rattle.state.specs.Outcomes.{answered}
@@ -34,7 +34,7 @@ lately n (At t) = underTwice (n .timeout) (age (n .clock) t)
 -- 11 to 14, 18, 15 and 16, in that order, by the slot table lent and for a candidate of that role
 abbrev pub requestChecks : Node → List ℕ → Role → List ℕ → ℕ → List (Bool × Answer)
 requestChecks n slots role bitmap epoch =
-    (not (votingMaster n slots (n .me)), NotMaster)
+    (not (votingMaster n slots (n .me)), NotVoting)
     ∷ (ltb epoch (n .current), StaleEpoch)
     ∷ (leb epoch (n .voted), AlreadyVoted)
     ∷ (not (followsMaster n role), NoListedMaster)

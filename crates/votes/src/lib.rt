@@ -83,7 +83,7 @@ fn request_refusal(
     ensures { λ r. ⌜ r ≡ checked Refused (requestChecks node (now (slots .entry)) role (now (bitmap .entry)) epoch) Passed ⌝ }
 {
     if !is_voting(node, mine, slots) {
-        return Check::Refused(Answer::NotMaster);
+        return Check::Refused(Answer::NotVoting);
     }
     if epoch < node.current {
         return Check::Refused(Answer::StaleEpoch);
