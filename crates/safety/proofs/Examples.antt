@@ -1,5 +1,5 @@
 -- The computed examples of demand 3. A vote request is computed up to its looks at the bitmap, which is computed apart, and at
--- the slot table, which a law answers; all else is computed whole.
+-- the owners of the slots that it claims, which a law answers; all else is computed whole.
 use mathlib.Core.Path.{_≡_, refl, sym, ap, ap₂, _∙_, subst}
 use mathlib.Core.Logic.{inl, inr}
 use mathlib.Core.Bool.{Bool, true, false, cond}
@@ -21,7 +21,7 @@ use Rattle.tables.specs.declared.Found.the-variants.{Nothing}
 use Rattle.nodesets.specs.NodeSets.{gathered}
 use Rattle.answers.specs.Answers.{number}
 use Rattle.answers.specs.declared.Answer.the-variants.{ClaimsNothing}
-use Rattle.state.specs.Node.{recordAt, listed}
+use Rattle.state.specs.Node.{recordAt, listed, owns}
 use Rattle.state.specs.Changes.{withRecords, withCurrent, withVoted, withClock, withElection, arrived}
 use Rattle.state.specs.Outcomes.{answered}
 use Rattle.state.specs.declared.Node.{Node}
@@ -44,10 +44,10 @@ use Rattle.kinds.specs.Kinds.{onKind}
 use Rattle.node.specs.Step.{onFrame}
 use Rattle.safety.specs.Deeds.{Deed, granted, counted, won, opened, announced, other, Did, Has, Counted, Won, votingSet}
 use Rattle.safety.specs.Calls.{kindDeed}
-use Rattle.safety.specs.Demand3.{masterBy, SameSet, Made, stateOf, AllGranted}
-use Rattle.safety.specs.Examples.{roster, timeouts, deeds, failLine, requestLine, gets, winning, differing, differing3, differing4, madeUp, beforeWin, ANodeWins, SetsThatDiffer, AcksMadeUp, Examples}
+use Rattle.safety.specs.Demand3.{Roster, masterBy, SameSet, Made, stateOf, history, AllGranted}
+use Rattle.safety.specs.Examples.{roster, timeouts, deeds, failLine, requestLine, ownedBy, tables, gets, winning, differing, differing3, differing4, madeUp, beforeWin, ANodeWins, SetsThatDiffer, AcksMadeUp, Examples}
 
--- ---- a vote request: no owner in the lent table has a configEpoch above 0, whatever the bitmap claims
+-- ---- a vote request: no owner in the lent tables has a configEpoch above 0, whatever the bitmap claims
 
 unlisted-owner : (claims epoch : Bool) → allOf (claims ∷ false ∷ epoch ∷ []) ≡ false
 unlisted-owner true epoch = refl
@@ -63,18 +63,22 @@ unfolding firstFrom
 none-owned n bitmap i zero h = refl
 none-owned n bitmap i (suc k) h = rw (h, unlisted-owner (claimed bitmap i) (ltb 0 (recordAt n unowned .config))) (none-owned n bitmap (suc i) k h)
 
-none-newer : (n : Node) (bitmap : List ℕ) (k : ℕ) → listed n unowned ≡ false → ltb 0 (recordAt n 0 .config) ≡ false → firstAt (newer n bitmap 0) (0 ∷ replicate k unowned) ≡ Nothing
+past-owner : (n : Node) (bitmap : List ℕ) (i owner : ℕ) (rest : List ℕ) → ltb 0 (recordAt n owner .config) ≡ false → firstFrom (newer n bitmap 0) (suc i) rest ≡ Nothing → firstFrom (newer n bitmap 0) i (owner ∷ rest) ≡ Nothing
 unfolding firstFrom
-none-newer n bitmap k h z = rw (z, no-newer-owner (claimed bitmap 0) (listed n 0)) (none-owned n bitmap 1 k h)
+past-owner n bitmap i owner rest z h = rw (z, no-newer-owner (claimed bitmap i) (listed n owner)) h
 
--- node v, when it has heard from s that node 0 is FAIL
-abbrev informed : ℕ → ℕ → Node
-informed v s = stateOf roster timeouts (gets v (failLine s) ∷ []) v
+none-newer : (n : Node) (bitmap : List ℕ) (first second : ℕ) → listed n unowned ≡ false → ltb 0 (recordAt n 0 .config) ≡ false → ltb 0 (recordAt n first .config) ≡ false → ltb 0 (recordAt n second .config) ≡ false
+    → firstAt (newer n bitmap 0) (ownedBy first second .slots) ≡ Nothing
+none-newer n bitmap first second h z f s = past-owner n bitmap 0 0 _ z (past-owner n bitmap 1 first _ f (past-owner n bitmap 2 second _ s (none-owned n bitmap 3 16381 h)))
+
+-- node v, when it has heard from s that node 0 is FAIL, whatever the tables then, and takes in a request
+abbrev asked : Roster → ℕ → ℕ → Node
+asked r v s = arrived 0 1 (stateOf r timeouts (gets v (failLine s) ∷ []) v)
 
 -- what it did once the request of c was answered, by whether the bitmap is empty and by what the look at the table finds
-abbrev voter : ℕ → ℕ → ℕ → Bool → Found → List Deed
-voter v s c t x =
-    let n = arrived 0 1 (informed v s) in
+abbrev voter : Roster → ℕ → ℕ → ℕ → Bool → Found → List Deed
+voter r v s c t x =
+    let n = asked r v s in
     kindDeed (record { time = 0; epoch = 1; config = 0 }) (Request c) (number (cond t (answered n ClaimsNothing) (byOwners n 0 1 x) .answer)) ∷ other ∷ []
 
 -- the requests of 3 and 4 claim a slot
@@ -102,12 +106,12 @@ lives : Lives
 unfolding every mapFrom wordOf wordsFrom firstFrom gathered withRecords withCurrent withVoted withClock withElection arraysWhole boundsKept before idsAscend recordsSound electionSound marksAscend marksSound ownClear sound freshNode isDigit digit allDigits byteAt numberAt character hex bytesOf frameOf encode isBeyond frameRefusals refusals failed withSender heartbeat votes.granted requested openings.opening opens promoted acked onKind onFrame ones winning differing madeUp
 lives = record {
   winner = refl;
-  winner-voter1 = ap₂ (voter 1 2 3) claims3 (none-newer (arrived 0 1 (informed 1 2)) (bitmapOf (requestLine 3)) 16383 refl refl);
-  winner-voter2 = ap₂ (voter 2 1 3) claims3 (none-newer (arrived 0 1 (informed 2 1)) (bitmapOf (requestLine 3)) 16383 refl refl);
+  winner-voter1 = ap₂ (voter roster 1 2 3) claims3 (none-newer (asked roster 1 2) (bitmapOf (requestLine 3)) 1 2 refl refl refl refl);
+  winner-voter2 = ap₂ (voter roster 2 1 3) claims3 (none-newer (asked roster 2 1) (bitmapOf (requestLine 3)) 1 2 refl refl refl refl);
   first = refl;
   second = refl;
-  first-voter = ap₂ (voter 1 2 3) claims3 (none-newer (arrived 0 1 (informed 1 2)) (bitmapOf (requestLine 3)) 16383 refl refl);
-  second-voter = ap₂ (voter 2 1 4) claims4 (none-newer (arrived 0 1 (informed 2 1)) (bitmapOf (requestLine 4)) 16383 refl refl);
+  first-voter = ap₂ (voter roster 1 2 3) claims3 (none-newer (asked roster 1 2) (bitmapOf (requestLine 3)) 1 2 refl refl refl refl);
+  second-voter = ap₂ (voter roster 2 1 4) claims4 (none-newer (asked roster 2 1) (bitmapOf (requestLine 4)) 1 2 refl refl refl refl);
   loser = refl;
 }
 
@@ -128,7 +132,7 @@ abbrev ackOf : Deed → ℕ
 ackOf (granted e c) = 0
 ackOf (counted v e) = suc v
 ackOf (won v e) = suc v
-ackOf opened = 0
+ackOf (opened slots) = 0
 ackOf (announced s m) = 0
 ackOf other = 0
 
@@ -155,12 +159,13 @@ one-ack ms a u k e g v c = go (subst (Has (suc v)) e (counted-ack v 1 (deeds ms 
     go (inr h) = absurd (no-ack v k h)
 
 -- and so did each of the two
-two-acks : (ms : List Made) (a u w k : ℕ) → map ackOf (deeds ms a) ≡ suc u ∷ suc w ∷ replicate k 0 → Did (granted 1 a) (deeds ms u) → Did (granted 1 a) (deeds ms w) → AllGranted roster timeouts ms a 1
-two-acks ms a u w k e g g′ v c = go (subst (Has (suc v)) e (counted-ack v 1 (deeds ms a) c))
+two-acks : (r : Roster) (ms : List Made) (a u w k : ℕ) → map ackOf (history r timeouts ms a) ≡ suc u ∷ suc w ∷ replicate k 0
+    → Did (granted 1 a) (history r timeouts ms u) → Did (granted 1 a) (history r timeouts ms w) → AllGranted r timeouts ms a 1
+two-acks r ms a u w k e g g′ v c = go (subst (Has (suc v)) e (counted-ack v 1 (history r timeouts ms a) c))
   where
-    go : Has (suc v) (suc u ∷ suc w ∷ replicate k 0) → Did (granted 1 a) (deeds ms v)
-    go (inl p) = subst (λ (x : ℕ). Did (granted 1 a) (deeds ms x)) (omega (arith, p)) g
-    go (inr (inl p)) = subst (λ (x : ℕ). Did (granted 1 a) (deeds ms x)) (omega (arith, p)) g′
+    go : Has (suc v) (suc u ∷ suc w ∷ replicate k 0) → Did (granted 1 a) (history r timeouts ms v)
+    go (inl p) = subst (λ (x : ℕ). Did (granted 1 a) (history r timeouts ms x)) (omega (arith, p)) g
+    go (inr (inl p)) = subst (λ (x : ℕ). Did (granted 1 a) (history r timeouts ms x)) (omega (arith, p)) g′
     go (inr (inr h)) = absurd (no-ack v k h)
 
 -- the last thing that was done was done
@@ -176,6 +181,7 @@ a-node-wins : ANodeWins
 a-node-wins = record { candidate = lives .winner; voter1 = lives .winner-voter1; voter2 = lives .winner-voter2 }
 
 sets-that-differ : SetsThatDiffer
+unfolding firstFrom
 sets-that-differ = record {
   both = record { first = won-last 1 1 _ _ (lives .first); second = won-last 1 2 _ _ (lives .second) };
   granted3 = one-ack differing 3 1 4 (ap (map ackOf) (lives .first)) (did-last _ _ _ (lives .first-voter));
@@ -197,14 +203,14 @@ same-set k = go (ℕ-discrete k 3) (ℕ-discrete k 4)
     go : Dec (k ≡ 3) → Dec (k ≡ 4) → P k
     go (yes e) f = subst P (sym e) refl
     go (no e) (yes f) = subst P (sym f) refl
-    go (no e) (no f) = both-others (eqb k 3) (eqb k 4) (masterBy roster k) (ne-eqb k 3 e) (ne-eqb k 4 f)
+    go (no e) (no f) = both-others (eqb k 3) (eqb k 4) (allOf (masterBy roster k ∷ owns (tables .slots) k ∷ [])) (ne-eqb k 3 e) (ne-eqb k 4 f)
 
 -- to whom a grant went; else 0
 abbrev grantedTo : Deed → ℕ
 grantedTo (granted e c) = c
 grantedTo (counted v e) = 0
 grantedTo (won v e) = 0
-grantedTo opened = 0
+grantedTo (opened slots) = 0
 grantedTo (announced s m) = 0
 grantedTo other = 0
 
@@ -217,7 +223,7 @@ acks-made-up : AcksMadeUp
 acks-made-up = record {
   both = record { first = won-last 1 2 _ _ winner; second = won-last 1 2 _ _ (lives .loser) };
   sets = same-set;
-  granted3 = two-acks madeUp 3 2 1 2 (ap (map ackOf) winner) (did-last _ _ _ (still .voter2 ∙ lives .winner-voter2)) (did-last _ _ _ voter1);
+  granted3 = two-acks roster madeUp 3 2 1 2 (ap (map ackOf) winner) (did-last _ _ _ (still .voter2 ∙ lives .winner-voter2)) (did-last _ _ _ voter1);
   counted4 = inl (subst (Did (counted 1 1)) (sym (lives .loser)) (inr (inl refl)));
   ungranted = λ d. to-another (subst (Did (granted 1 4)) voter1 d);
 }

@@ -10,7 +10,9 @@ use native.Mathlib.Omega.{arith}
 use lib.Dec.{eqb}
 use borrow.Author.Tests.{eqb-true, ne-eqb}
 use Rattle.safety.specs.Deeds.{Deed, granted, counted, won, opened, announced, other, Did, grantOf, grants, Has, NoneTwice, greatest, Counted, Won, isOpening, listedAfter, listedMaster, votingSet}
+use Rattle.tables.specs.Checks.{allOf}
 use Rattle.tables.specs.Majorities.{Majority}
+use Rattle.state.specs.Node.{owns}
 
 -- ---- what is looked at in a node's state
 
@@ -66,13 +68,13 @@ pub record Wins (n u e : ℕ) (s s′ : View) : Type 0 where
   pub vote : s′ .lastVote ≡ s .lastVote
   pub masters : Same (s .masters) (s′ .masters)
 
--- a poll of the masters that are listed, with none heard, replaces any other
-pub record Opens (s s′ : View) : Type 0 where
+-- a poll of the masters that are listed and own a slot of the table, with none heard, replaces any other
+pub record Opens (slots : List ℕ) (s s′ : View) : Type 0 where
   pub epoch : ℕ
   pub set : ℕ → Bool
   pub heard : ℕ → Bool
   pub poll : s′ .poll ≡ running epoch set heard
-  pub voters : Same (s .masters) set
+  pub voters : (k : ℕ) → set k ≡ allOf (s .masters k ∷ owns slots k ∷ [])
   pub none : (k : ℕ) → heard k ≡ false
   pub vote : s′ .lastVote ≡ s .lastVote
   pub masters : Same (s .masters) (s′ .masters)
@@ -95,7 +97,7 @@ abbrev pub Moves : ℕ → ℕ → View → Deed → View → Type 0
 Moves n a s (granted e c) s′ = Grants e s s′
 Moves n a s (counted u e) s′ = Counts u e s s′
 Moves n a s (won u e) s′ = Wins n u e s s′
-Moves n a s opened s′ = Opens s s′
+Moves n a s (opened slots) s′ = Opens slots s s′
 Moves n a s (announced u b) s′ = Lists a u b s s′
 Moves n a s other s′ = Rests s s′
 
@@ -170,7 +172,7 @@ module _ (n : ℕ) (roster : ℕ → Bool) (a : ℕ) where
   set-still (granted e c) h k o = refl
   set-still (counted v e) h k o = refl
   set-still (won v e) h k o = refl
-  set-still opened h k o = absurd (true≢false o)
+  set-still (opened slots) h k o = absurd (true≢false o)
   set-still (announced u b) h k o = refl
   set-still other h k o = refl
 
@@ -211,6 +213,11 @@ module _ (n : ℕ) (roster : ℕ → Bool) (a : ℕ) where
       go true f = let z : eqb k a ≡ false = ne-eqb k a (λ q. ne (f refl ∙ q)) in rw z
       go false f = p
 
+  -- the opening node is none of the masters, so it is not in the set either
+  opener-out : (me master listed owner : Bool) → master ≡ cond me false listed → allOf (master ∷ owner ∷ []) ≡ cond me false (allOf (listed ∷ owner ∷ []))
+  opener-out true master listed owner p = rw p
+  opener-out false master listed owner p = rw p
+
   -- each deed keeps it
   pub step : (d : Deed) (h : List Deed) (s s′ : View) → Inv h s → Moves n a s d s′ → Inv (d ∷ h) s′
   step (granted e c) h s s′ i m = record {
@@ -231,11 +238,11 @@ module _ (n : ℕ) (roster : ℕ → Bool) (a : ℕ) where
     poll = rw (m .poll) tt;
     masters = masters-still (won u e) h s s′ (λ k b. refl) (m .masters) (i .masters);
   }
-  step opened h s s′ i m = record {
+  step (opened slots) h s s′ i m = record {
     once = i .once;
     vote = m .vote ∙ i .vote;
-    poll = rw (m .poll) (λ k. m .voters k ∙ i .masters k, λ k t. absurd (true≢false (sym t ∙ m .none k)));
-    masters = masters-still opened h s s′ (λ k b. refl) (m .masters) (i .masters);
+    poll = rw (m .poll) (λ k. m .voters k ∙ opener-out (eqb k a) _ _ (owns slots k) (i .masters k), λ k t. absurd (true≢false (sym t ∙ m .none k)));
+    masters = masters-still (opened slots) h s s′ (λ k b. refl) (m .masters) (i .masters);
   }
   step (announced u b) h s s′ i m = record {
     once = i .once;
@@ -260,7 +267,7 @@ module _ (n : ℕ) (roster : ℕ → Bool) (a : ℕ) where
   vote-rises (granted e c) s s′ m = omega (arith, m .newer, m .vote)
   vote-rises (counted u e) s s′ m = omega (arith, m .vote)
   vote-rises (won u e) s s′ m = omega (arith, m .vote)
-  vote-rises opened s s′ m = omega (arith, m .vote)
+  vote-rises (opened slots) s s′ m = omega (arith, m .vote)
   vote-rises (announced u b) s s′ m = omega (arith, m .vote)
   vote-rises other s s′ m = omega (arith, m .vote)
 

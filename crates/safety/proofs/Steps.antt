@@ -18,7 +18,7 @@ use Rattle.answers.specs.Answers.{number}
 use Rattle.answers.specs.declared.Answer.{Answer}
 use Rattle.answers.specs.declared.Answer.the-variants.{Done}
 use Rattle.answers.proofs.Checks.{refuses, refusalsPass, testFor, past}
-use Rattle.state.specs.Node.{recordAt, roleAt, masterAt, isMaster}
+use Rattle.state.specs.Node.{recordAt, roleAt, masterAt, isMaster, owns}
 use Rattle.state.specs.Changes.{withClock, withCurrent, withVoted, withElection, withRecords, withMarks, arrived}
 use Rattle.state.specs.Outcomes.{answered, Slotted, Stepped}
 use Rattle.state.specs.declared.Node.{Node}
@@ -50,7 +50,6 @@ use Rattle.votes.specs.Votes as votes
 use Rattle.votes.specs.Votes.{requested}
 use Rattle.votes.proofs.Steps.{request-cases}
 use Rattle.votes.proofs.Laws.{vote-keeps}
-use Rattle.openings.specs.Openings.{opens}
 use Rattle.openings.proofs.Steps.{open-cases}
 use Rattle.openings.specs.NewElection.{NewElection}
 use Rattle.openings.proofs.Laws.{opening-new, opening-keeps, opening-voted}
@@ -247,12 +246,12 @@ module _ (n : Node) where
   kind-good : (slots reports bitmap : List ℕ) (h : Header) (k : Kind) → sound n ≡ true → isUnlisted (n .size) k ≡ false → namesThisNode (n .me) k ≡ false → Shown h k (onKind n slots reports bitmap h k .outcome)
   unfolding onKind
   kind-good slots reports bitmap h (Heartbeat sender role) s l d = heartbeat-good slots bitmap h sender role s (sender-listed (n .size) sender role l) (sender-another (n .me) sender role d)
-  kind-good slots reports bitmap h (Report reporter subject verdict) s l d = rests n _ (failure-alike n _ (reported-kept n reports reporter subject verdict))
+  kind-good slots reports bitmap h (Report reporter subject verdict) s l d = rests n _ (failure-alike n _ (reported-kept n slots reports reporter subject verdict))
   kind-good slots reports bitmap h (Fail sender subject) s l d = rests n _ (failure-alike n _ (failed-kept n subject))
   kind-good slots reports bitmap h (Request candidate) s l d = request-good slots bitmap h candidate
   kind-good slots reports bitmap h (Ack voter candidate) s l d = ack-good slots h voter candidate s
   kind-good slots reports bitmap h (Probe subject echo) s l d = rests n _ (failure-alike n _ (probed-kept n slots subject echo))
-  kind-good slots reports bitmap h Tick s l d = rests n _ (failure-alike n _ (ticked-kept n reports))
+  kind-good slots reports bitmap h Tick s l d = rests n _ (failure-alike n _ (ticked-kept n slots reports))
 
 -- ---- a frame's line
 
@@ -300,12 +299,12 @@ no-master n e = go (ltb (n .me) (n .size)) e
     go true h = h
     go false h = refl
 
-opening-good : (n : Node) (slots : List ℕ) (time : ℕ) → Follows n (deedOf (opening time) (number (opens n slots time .answer))) (opens n slots time .node)
+opening-good : (n : Node) (t : Tables) (time : ℕ) → Follows n (deed n t (opening time)) (outcome n t (opening time) .node)
 unfolding withClock
-opening-good n slots time =
-    open-cases n slots time (λ (o : Outcome). (o .answer ≡ Done → NewElection n (o .node)) → Keeps n (o .node) → o .node .voted ≡ n .voted → P o)
-    (λ a t e h v. rw (neither a t .0) (rests n n (alike n)))
-    (λ w a t e h v. rw (neither a t .0) (rests n (withClock time n) (record { me = refl; voted = refl; election = refl; masters = λ k. refl })))
+opening-good n t time =
+    open-cases n (t .slots) time (λ (o : Outcome). (o .answer ≡ Done → NewElection (t .slots) n (o .node)) → Keeps n (o .node) → o .node .voted ≡ n .voted → P o)
+    (λ a r e h v. rw (neither a r .0) (rests n n (alike n)))
+    (λ w a r e h v. rw (neither a r .0) (rests n (withClock time n) (record { me = refl; voted = refl; election = refl; masters = λ k. refl })))
     (λ w p e h v. let x = e refl in record {
       me = h .me;
       moves = record {
@@ -313,18 +312,18 @@ opening-good n slots time =
         set = has (x .voters);
         heard = has (x .heard);
         poll = ap pollOf (x .election);
-        voters = λ k. x .listed k ∙ only k (no-master n (p 24)) (ℕ-discrete k (n .me));
+        voters = λ k. x .voting k ∙ ap (λ (m : Bool). allOf (m ∷ owns (t .slots) k ∷ [])) (only k (no-master n (p 24)) (ℕ-discrete k (n .me)));
         none = x .unheard;
         vote = v;
         masters = others n _ h;
       };
     })
-    (opening-new n slots time)
-    (opening-keeps n slots time)
-    (opening-voted n slots time)
+    (opening-new n (t .slots) time)
+    (opening-keeps n (t .slots) time)
+    (opening-voted n (t .slots) time)
   where
     P : Outcome → Type 0
-    P o = Follows n (deedOf (opening time) (number (o .answer))) (o .node)
+    P o = Follows n (deedOf t (opening time) (number (o .answer))) (o .node)
 
     only : (k : ℕ) → masterAt n (n .me) ≡ false → Dec (k ≡ n .me) → masterAt n k ≡ otherMaster n k
     only k m (yes e) = rw (e, m, eq-eqb (n .me) (n .me) refl)
@@ -334,6 +333,6 @@ opening-good n slots time =
 
 pub each-call : (n : Node) (t : Tables) (c : Call) → Follows n (deed n t c) (outcome n t c .node)
 each-call n t (frame line) = frame-good n t line
-each-call n t (opening time) = opening-good n (t .slots) time
+each-call n t (opening time) = opening-good n t time
 each-call n t (setting slot move) = rests n _ (marks-alike n _ (set-marks-keep n (t .slots) slot move))
 each-call n t (clearing slot) = rests n _ (marks-alike n _ (clear-marks-keep n slot))

@@ -28,12 +28,12 @@ abbrev pub frameDeed : Decoded → ℕ → Deed
 frameDeed NotAFrame a = other
 frameDeed (Good f) a = kindDeed (f .header) (f .kind) a
 
--- what a call came to, from its arguments and its answer's number alone
-abbrev pub deedOf : Call → ℕ → Deed
-deedOf (frame line) a = frameDeed (frameOf line) a
-deedOf (opening time) a = cond (eqb a 0) opened other
-deedOf (setting slot move) a = other
-deedOf (clearing slot) a = other
+-- what a call came to, from its arguments, the tables lent and its answer's number alone
+abbrev pub deedOf : Tables → Call → ℕ → Deed
+deedOf t (frame line) a = frameDeed (frameOf line) a
+deedOf t (opening time) a = cond (eqb a 0) (opened (t .slots)) other
+deedOf t (setting slot move) a = other
+deedOf t (clearing slot) a = other
 
 abbrev pub deed : Node → Tables → Call → Deed
-deed n t c = deedOf c (number (outcome n t c .answer))
+deed n t c = deedOf t c (number (outcome n t c .answer))

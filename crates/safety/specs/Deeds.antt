@@ -5,6 +5,8 @@ use mathlib.Core.Bool.{Bool, true, false, cond}
 use mathlib.Core.List.{List, [], _∷_, _++_}
 use Prim.Native.Nat.{ℕ, max}
 use lib.Dec.{eqb}
+use Rattle.tables.specs.Checks.{allOf}
+use Rattle.state.specs.Node.{owns}
 
 pub data Deed : Type 0 where
   -- a vote request answered 10
@@ -13,8 +15,8 @@ pub data Deed : Type 0 where
   counted : (voter epoch : ℕ) → Deed
   -- an ack answered 30
   won : (voter epoch : ℕ) → Deed
-  -- an opening answered 0
-  opened : Deed
+  -- an opening answered 0, and the slot table lent to it
+  opened : (slots : List ℕ) → Deed
   -- a heartbeat answered 0, which says whether its sender is a master
   announced : (sender : ℕ) (master : Bool) → Deed
   other : Deed
@@ -32,7 +34,7 @@ abbrev pub grantOf : Deed → List ℕ
 grantOf (granted e c) = e ∷ []
 grantOf (counted v e) = []
 grantOf (won v e) = []
-grantOf opened = []
+grantOf (opened slots) = []
 grantOf (announced s m) = []
 grantOf other = []
 
@@ -64,13 +66,13 @@ abbrev pub Won : ℕ → List Deed → List Deed → Type 0
 Won e [] before = ⊥
 Won e (x ∷ h) before = ((voter : ℕ) × (x ≡ won voter e) × (before ≡ h)) ⊎ Won e h before
 
--- ---- the set of voting masters
+-- ---- the set of voting masters: document 01, "The lists of demand 3", and document 02, [3]
 
 abbrev pub isOpening : Deed → Bool
 isOpening (granted e c) = false
 isOpening (counted v e) = false
 isOpening (won v e) = false
-isOpening opened = true
+isOpening (opened slots) = true
 isOpening (announced s m) = false
 isOpening other = false
 
@@ -79,12 +81,25 @@ abbrev pub beforeOpening : List Deed → List Deed
 beforeOpening [] = []
 beforeOpening (d ∷ h) = cond (isOpening d) h (beforeOpening h)
 
+-- the slot table lent to the last opening, or an empty one with no opening
+abbrev pub lentAfter : Deed → List ℕ → List ℕ
+lentAfter (granted e c) was = was
+lentAfter (counted v e) was = was
+lentAfter (won v e) was = was
+lentAfter (opened slots) was = slots
+lentAfter (announced s m) was = was
+lentAfter other was = was
+
+abbrev pub tableAtOpening : List Deed → List ℕ
+tableAtOpening [] = []
+tableAtOpening (d ∷ h) = lentAfter d (tableAtOpening h)
+
 -- is k listed as a master: by the last heartbeat that names it as sender or, with no such heartbeat, by the roster
 abbrev pub listedAfter : Deed → ℕ → Bool → Bool
 listedAfter (granted e c) k was = was
 listedAfter (counted v e) k was = was
 listedAfter (won v e) k was = was
-listedAfter opened k was = was
+listedAfter (opened slots) k was = was
 listedAfter (announced s m) k was = cond (eqb s k) m was
 listedAfter other k was = was
 
@@ -92,6 +107,7 @@ abbrev pub listedMaster : (ℕ → Bool) → List Deed → ℕ → Bool
 listedMaster roster [] k = roster k
 listedMaster roster (d ∷ h) k = listedAfter d k (listedMaster roster h k)
 
--- the set of the election that node a has open after that history: the others that were listed as masters at its opening
+-- the set of the election that node a has open after that history: the others that were listed as masters at its opening and
+-- own some slot of the table lent to it
 abbrev pub votingSet : (ℕ → Bool) → ℕ → List Deed → ℕ → Bool
-votingSet roster a h k = cond (eqb k a) false (listedMaster roster (beforeOpening h) k)
+votingSet roster a h k = cond (eqb k a) false (allOf (listedMaster roster (beforeOpening h) k ∷ owns (tableAtOpening h) k ∷ []))

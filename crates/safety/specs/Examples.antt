@@ -52,9 +52,13 @@ ackLine voter candidate = lineOf 1 (Ack voter candidate)
 
 -- ---- the calls, with the tables lent
 
--- node 0 owns slot 0, and nobody another one; nothing is reported
+-- node 0 owns slot 0, two others own a slot each, and the rest are unowned; nothing is reported
+abbrev pub ownedBy : ℕ → ℕ → Tables
+ownedBy first second = record { slots = 0 ∷ first ∷ second ∷ replicate 16381 unowned; reports = replicate reportCount 0 }
+
+-- where nothing else is said, the two others are the masters 1 and 2
 abbrev pub tables : Tables
-tables = record { slots = 0 ∷ replicate 16383 unowned; reports = replicate reportCount 0 }
+tables = ownedBy 1 2
 
 abbrev pub gets : ℕ → List ℕ → Made
 gets node line = record { on = node; call = frame line; lent = tables }
@@ -64,31 +68,35 @@ opensElection node = record { on = node; call = opening 0; lent = tables }
 
 -- ---- a node wins
 
--- Node 3 hears that its master is FAIL and opens. Nodes 1 and 2 hear it too, and each grants its request. It counts one ack
+-- A candidate hears that its master is FAIL and opens. Two voters hear it too, and each grants its request. It counts one ack
 -- and wins by the other. The latest comes first.
-unfoldable pub winning : List Made
-winning =
-    gets 3 (ackLine 2 3)
-    ∷ gets 3 (ackLine 1 3)
-    ∷ gets 2 (requestLine 3)
-    ∷ gets 2 (failLine 1)
-    ∷ gets 1 (requestLine 3)
-    ∷ gets 1 (failLine 2)
-    ∷ opensElection 3
-    ∷ gets 3 (failLine 1)
+abbrev pub campaign : ℕ → ℕ → ℕ → List Made
+campaign candidate first second =
+    gets candidate (ackLine second candidate)
+    ∷ gets candidate (ackLine first candidate)
+    ∷ gets second (requestLine candidate)
+    ∷ gets second (failLine first)
+    ∷ gets first (requestLine candidate)
+    ∷ gets first (failLine second)
+    ∷ opensElection candidate
+    ∷ gets candidate (failLine first)
     ∷ []
 
+-- node 3, by the votes of 1 and 2
+unfoldable pub winning : List Made
+winning = campaign 3 1 2
+
 pub record ANodeWins : Type 0 where
-  pub candidate : deeds winning 3 ≡ won 2 1 ∷ counted 1 1 ∷ opened ∷ other ∷ []
+  pub candidate : deeds winning 3 ≡ won 2 1 ∷ counted 1 1 ∷ opened (tables .slots) ∷ other ∷ []
   pub voter1 : deeds winning 1 ≡ granted 1 3 ∷ other ∷ []
   pub voter2 : deeds winning 2 ≡ granted 1 3 ∷ other ∷ []
 
 -- ---- two nodes win the same epoch
 
 -- nodes 3 and 4 win epoch 1, and had done that before their wins
-pub record BothWin (ms : List Made) (before3 before4 : List Deed) : Type 0 where
-  pub first : Won 1 (deeds ms 3) before3
-  pub second : Won 1 (deeds ms 4) before4
+pub record BothWin (r : Roster) (ms : List Made) (before3 before4 : List Deed) : Type 0 where
+  pub first : Won 1 (history r timeouts ms 3) before3
+  pub second : Won 1 (history r timeouts ms 4) before4
 
 -- Sets that differ. Node 3 is told that nodes 0 and 2 are replicas, so that its set is node 1 alone; node 4 is told it of 0 and
 -- 1, and its set is node 2 alone. Each voter grants what it acks.
@@ -111,13 +119,13 @@ differing =
     ∷ []
 
 abbrev pub differing3 : List Deed
-differing3 = opened ∷ other ∷ announced 2 false ∷ announced 0 false ∷ []
+differing3 = opened (tables .slots) ∷ other ∷ announced 2 false ∷ announced 0 false ∷ []
 
 abbrev pub differing4 : List Deed
-differing4 = opened ∷ other ∷ announced 1 false ∷ announced 0 false ∷ []
+differing4 = opened (tables .slots) ∷ other ∷ announced 1 false ∷ announced 0 false ∷ []
 
 pub record SetsThatDiffer : Type 0 where
-  pub both : BothWin differing differing3 differing4
+  pub both : BothWin roster differing differing3 differing4
   pub granted3 : AllGranted roster timeouts differing 3 1
   pub granted4 : AllGranted roster timeouts differing 4 1
   -- the first proviso is broken: node 1 is in the one set, and not in the other
@@ -130,10 +138,10 @@ unfoldable pub madeUp : List Made
 madeUp = gets 4 (ackLine 2 4) ∷ gets 4 (ackLine 1 4) ∷ opensElection 4 ∷ gets 4 (failLine 1) ∷ winning
 
 abbrev pub beforeWin : List Deed
-beforeWin = counted 1 1 ∷ opened ∷ other ∷ []
+beforeWin = counted 1 1 ∷ opened (tables .slots) ∷ other ∷ []
 
 pub record AcksMadeUp : Type 0 where
-  pub both : BothWin madeUp beforeWin beforeWin
+  pub both : BothWin roster madeUp beforeWin beforeWin
   pub sets : SameSet roster 3 beforeWin 4 beforeWin
   pub granted3 : AllGranted roster timeouts madeUp 3 1
   -- the second is broken: node 4 counted an ack of node 1, which did not grant it the epoch
