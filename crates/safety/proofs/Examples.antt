@@ -45,7 +45,7 @@ use Rattle.node.specs.Step.{onFrame}
 use Rattle.safety.specs.Deeds.{Deed, granted, counted, won, opened, announced, other, Did, Has, Counted, Won, votingSet}
 use Rattle.safety.specs.Calls.{kindDeed}
 use Rattle.safety.specs.Demand3.{Roster, masterBy, SameSet, Made, stateOf, history, AllGranted}
-use Rattle.safety.specs.Examples.{roster, timeouts, deeds, failLine, requestLine, ownedBy, tables, gets, winning, differing, differing3, differing4, madeUp, beforeWin, ANodeWins, SetsThatDiffer, AcksMadeUp, Examples}
+use Rattle.safety.specs.Examples.{roster, wider, timeouts, deeds, failLine, requestLine, ownedBy, tables, gets, winning, differing, differing3, differing4, dividing, dividing3, dividing4, madeUp, beforeWin, ANodeWins, SetsThatDiffer, TablesThatDiffer, AcksMadeUp, Examples}
 
 -- ---- a vote request: no owner in the lent tables has a configEpoch above 0, whatever the bitmap claims
 
@@ -101,9 +101,15 @@ record Lives : Type 0 where
   first-voter : deeds differing 1 ≡ granted 1 3 ∷ other ∷ []
   second-voter : deeds differing 2 ≡ granted 1 4 ∷ other ∷ []
   loser : deeds madeUp 4 ≡ won 2 1 ∷ beforeWin
+  divided3 : history wider timeouts dividing 3 ≡ won 2 1 ∷ dividing3
+  divided4 : history wider timeouts dividing 4 ≡ won 6 1 ∷ dividing4
+  divided-voter1 : history wider timeouts dividing 1 ≡ granted 1 3 ∷ other ∷ []
+  divided-voter2 : history wider timeouts dividing 2 ≡ granted 1 3 ∷ other ∷ []
+  divided-voter5 : history wider timeouts dividing 5 ≡ granted 1 4 ∷ other ∷ []
+  divided-voter6 : history wider timeouts dividing 6 ≡ granted 1 4 ∷ other ∷ []
 
 lives : Lives
-unfolding every mapFrom wordOf wordsFrom firstFrom gathered withRecords withCurrent withVoted withClock withElection arraysWhole boundsKept before idsAscend recordsSound electionSound marksAscend marksSound ownClear sound freshNode isDigit digit allDigits byteAt numberAt character hex bytesOf frameOf encode isBeyond frameRefusals refusals failed withSender heartbeat votes.granted requested openings.opening opens promoted acked onKind onFrame ones winning differing madeUp
+unfolding every mapFrom wordOf wordsFrom firstFrom gathered withRecords withCurrent withVoted withClock withElection arraysWhole boundsKept before idsAscend recordsSound electionSound marksAscend marksSound ownClear sound freshNode isDigit digit allDigits byteAt numberAt character hex bytesOf frameOf encode isBeyond frameRefusals refusals failed withSender heartbeat votes.granted requested openings.opening opens promoted acked onKind onFrame ones winning differing madeUp dividing
 lives = record {
   winner = refl;
   winner-voter1 = ap₂ (voter roster 1 2 3) claims3 (none-newer (asked roster 1 2) (bitmapOf (requestLine 3)) 1 2 refl refl refl refl);
@@ -113,6 +119,12 @@ lives = record {
   first-voter = ap₂ (voter roster 1 2 3) claims3 (none-newer (asked roster 1 2) (bitmapOf (requestLine 3)) 1 2 refl refl refl refl);
   second-voter = ap₂ (voter roster 2 1 4) claims4 (none-newer (asked roster 2 1) (bitmapOf (requestLine 4)) 1 2 refl refl refl refl);
   loser = refl;
+  divided3 = refl;
+  divided4 = refl;
+  divided-voter1 = ap₂ (voter wider 1 2 3) claims3 (none-newer (asked wider 1 2) (bitmapOf (requestLine 3)) 1 2 refl refl refl refl);
+  divided-voter2 = ap₂ (voter wider 2 1 3) claims3 (none-newer (asked wider 2 1) (bitmapOf (requestLine 3)) 1 2 refl refl refl refl);
+  divided-voter5 = ap₂ (voter wider 5 6 4) claims4 (none-newer (asked wider 5 6) (bitmapOf (requestLine 4)) 5 6 refl refl refl refl);
+  divided-voter6 = ap₂ (voter wider 6 5 4) claims4 (none-newer (asked wider 6 5) (bitmapOf (requestLine 4)) 5 6 refl refl refl refl);
 }
 
 -- in the last list the others do what they did in the first
@@ -190,6 +202,17 @@ sets-that-differ = record {
   not-in4 = refl;
 }
 
+tables-that-differ : TablesThatDiffer
+unfolding firstFrom
+tables-that-differ = record {
+  both = record { first = won-last 1 2 _ _ (lives .divided3); second = won-last 1 6 _ _ (lives .divided4) };
+  granted3 = two-acks wider dividing 3 2 1 2 (ap (map ackOf) (lives .divided3)) (did-last _ _ _ (lives .divided-voter2)) (did-last _ _ _ (lives .divided-voter1));
+  granted4 = two-acks wider dividing 4 6 5 2 (ap (map ackOf) (lives .divided4)) (did-last _ _ _ (lives .divided-voter6)) (did-last _ _ _ (lives .divided-voter5));
+  same-masters = λ k. refl;
+  in3 = refl;
+  not-in4 = refl;
+}
+
 -- neither 3 nor 4 is a master
 same-set : SameSet roster 3 beforeWin 4 beforeWin
 same-set k = go (ℕ-discrete k 3) (ℕ-discrete k 4)
@@ -235,4 +258,4 @@ acks-made-up = record {
     voter1 = still .voter1 ∙ lives .winner-voter1
 
 pub examples : Examples
-examples = record { wins = a-node-wins; differ = sets-that-differ; made-up = acks-made-up }
+examples = record { wins = a-node-wins; differ = sets-that-differ; tables-differ = tables-that-differ; made-up = acks-made-up }

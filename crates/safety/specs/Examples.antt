@@ -1,31 +1,37 @@
 -- Computed lists for demand 3: one in which a node wins, so that the statement is not empty; and for each proviso one that
--- breaks it alone, in which two nodes win the same epoch, so that both are needed. The roster is that of the cases of
--- document 01; every time in the lists is 0, and the epoch that is won is 1.
+-- breaks it alone, in which two nodes win the same epoch, so that both are needed. The first proviso has two, since sets differ
+-- by the roles that are told or by the tables that are lent. The roster is that of the cases of document 01, once with two
+-- masters more; every time in the lists is 0, and the epoch that is won is 1.
 use mathlib.Core.Path.{_≡_}
 use mathlib.Core.Bool.{true, false}
-use mathlib.Core.List.{List, [], _∷_}
+use mathlib.Core.List.{List, [], _∷_, _++_, map}
 use Prim.Native.Nat.{ℕ}
-use lib.ListN.{replicate}
+use lib.ListN.{replicate, set}
 use Rattle.tables.specs.Sizes.{reportCount, unowned}
 use Rattle.state.specs.declared.Role.the-variants.{Replica}
+use Rattle.fresh.specs.Fresh.{idOf}
 use Rattle.frames.specs.Lines.{encode}
 use Rattle.frames.specs.declared.Kind.{Kind}
 use Rattle.frames.specs.declared.Kind.the-variants.{Heartbeat, Fail, Request, Ack}
 use Rattle.cases.specs.Cases.{ids, roles}
 use Rattle.node.specs.Calls.{Tables, frame, opening}
-use Rattle.safety.specs.Deeds.{Deed, granted, counted, won, opened, announced, other, Did, Counted, Won, votingSet}
+use Rattle.safety.specs.Deeds.{Deed, granted, counted, won, opened, announced, other, Did, Counted, Won, beforeOpening, listedMaster, votingSet}
 use Rattle.safety.specs.Demand3.{Roster, masterBy, SameSet, Made, history, AllGranted}
 
--- ---- the roster
+-- ---- the rosters
 
 -- nodes 0, 1 and 2 are masters, 3 and 4 replicas of 0
 abbrev pub roster : Roster
 roster = record { ids = ids; roles = roles; size = 5 }
 
+-- and 5 and 6 are masters too
+abbrev pub wider : Roster
+wider = record { ids = set (set ids 5 (idOf 5)) 6 (idOf 6); roles = roles; size = 7 }
+
 abbrev pub timeouts : ℕ → ℕ
 timeouts v = 1000
 
--- what a node did
+-- what a node of the first did
 abbrev pub deeds : List Made → ℕ → List Deed
 deeds ms v = history roster timeouts ms v
 
@@ -65,6 +71,10 @@ gets node line = record { on = node; call = frame line; lent = tables }
 
 abbrev pub opensElection : ℕ → Made
 opensElection node = record { on = node; call = opening 0; lent = tables }
+
+-- the same call, lent other tables
+abbrev pub lending : Tables → Made → Made
+lending t m = record { on = m .on; call = m .call; lent = t }
 
 -- ---- a node wins
 
@@ -132,6 +142,28 @@ pub record SetsThatDiffer : Type 0 where
   pub in3 : votingSet (masterBy roster) 3 differing3 1 ≡ true
   pub not-in4 : votingSet (masterBy roster) 4 differing4 1 ≡ false
 
+-- Tables that differ. The roster is the wider one, and no heartbeat comes, so that nodes 3 and 4 list the same five masters. Node
+-- 3 wins as above, and its set is 0, 1 and 2. Node 4 does the same with 5 and 6, which own a slot each by the tables lent there,
+-- while 1 and 2 own none, so that its set is 0, 5 and 6. Each voter grants what it acks.
+unfoldable pub dividing : List Made
+dividing = map (lending (ownedBy 5 6)) (campaign 4 5 6) ++ winning
+
+abbrev pub dividing3 : List Deed
+dividing3 = counted 1 1 ∷ opened (ownedBy 1 2 .slots) ∷ other ∷ []
+
+abbrev pub dividing4 : List Deed
+dividing4 = counted 5 1 ∷ opened (ownedBy 5 6 .slots) ∷ other ∷ []
+
+pub record TablesThatDiffer : Type 0 where
+  pub both : BothWin wider dividing dividing3 dividing4
+  pub granted3 : AllGranted wider timeouts dividing 3 1
+  pub granted4 : AllGranted wider timeouts dividing 4 1
+  -- the same masters are listed at both openings
+  pub same-masters : (k : ℕ) → listedMaster (masterBy wider) (beforeOpening dividing3) k ≡ listedMaster (masterBy wider) (beforeOpening dividing4) k
+  -- the first proviso is broken all the same: node 1 is in the one set, and not in the other
+  pub in3 : votingSet (masterBy wider) 3 dividing3 1 ≡ true
+  pub not-in4 : votingSet (masterBy wider) 4 dividing4 1 ≡ false
+
 -- Acks that nobody granted. Node 3 wins as above; then node 4 opens, with the same set, and gets acks of voters that granted
 -- the epoch to node 3.
 unfoldable pub madeUp : List Made
@@ -151,4 +183,5 @@ pub record AcksMadeUp : Type 0 where
 pub record Examples : Type 0 where
   pub wins : ANodeWins
   pub differ : SetsThatDiffer
+  pub tables-differ : TablesThatDiffer
   pub made-up : AcksMadeUp
