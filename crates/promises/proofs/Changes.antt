@@ -144,8 +144,8 @@ module _ (n : Node) (slots reports bitmap : List ℕ) (h : Header) where
   tick-changes a =
       let s = a .node-sound in
       record {
-        flags = ticked-flags later reports;
-        each = λ k l. tick-each later reports k l (omega (arith, l, all-records n s, few-nodes n s));
+        flags = ticked-flags later slots reports;
+        each = λ k l. tick-each later slots reports k l (omega (arith, l, all-records n s, few-nodes n s));
         tables = record { slots-kept = refl; reports-kept = refl };
       }
 
@@ -224,8 +224,8 @@ what-a-line-changes n slots reports line =
 
 -- ---- an opening, and marks
 
-opening-done : (n : Node) (slots : List ℕ) (time : ℕ) → opens n slots time .answer ≡ Done → opens n slots time .node ≡ opening (withClock time n)
-opening-done n slots time = open-cases n slots time (λ (o : Outcome). o .answer ≡ Done → o .node ≡ opening (withClock time n)) (λ a t e. absurd (rw e at t)) (λ w a t e. absurd (rw e at t)) (λ w p e. refl)
+opening-done : (n : Node) (slots : List ℕ) (time : ℕ) → opens n slots time .answer ≡ Done → opens n slots time .node ≡ opening (withClock time n) slots
+opening-done n slots time = open-cases n slots time (λ (o : Outcome). o .answer ≡ Done → o .node ≡ opening (withClock time n) slots) (λ a t e. absurd (rw e at t)) (λ w a t e. absurd (rw e at t)) (λ w p e. refl)
 
 opening-clock : (n : Node) (slots : List ℕ) (time : ℕ) → (opens n slots time .answer ≡ Done → ⊥) → (T (turnsAway (opens n slots time .answer)) → ⊥) → opens n slots time .node ≡ withClock time n
 unfolding opens withClock

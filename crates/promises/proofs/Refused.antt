@@ -59,7 +59,7 @@ module _ (n : Node) where
   unfolding requested
   request-passes slots bitmap candidate epoch config =
       let role = roleAt n candidate in
-      past (λ (o : Outcome). Passes (o .answer)) letsPass (answered n) (requestChecks n role bitmap epoch) (byOwners n (followed role) epoch (firstAt (newer n bitmap config) slots)) refl
+      past (λ (o : Outcome). Passes (o .answer)) letsPass (answered n) (requestChecks n slots role bitmap epoch) (byOwners n (followed role) epoch (firstAt (newer n bitmap config) slots)) refl
       let-pass (λ p. last (firstAt (newer n bitmap config) slots))
     where
       last : (f : Found) → Passes (byOwners n (followed (roleAt n candidate)) epoch f .answer)

@@ -97,13 +97,13 @@ module _ (n : Node) (slots reports bitmap : List ℕ) (h : Header) where
       let r : h .epoch ≤ risen (n .current) (h .epoch) = risen-to (n .current) (h .epoch) in
       heartbeat-sound m slots bitmap sender role (h .config) (comes (Heartbeat sender role) a) (sender-other (n .me) sender role (a .not-this-node))
       (follow-sound (n .size) sender role (a .all-listed) (a .follows-another)) (omega (arith, c, r))
-  kind-sound (Report reporter subject said) a = reported-sound m (comes (Report reporter subject said) a) reports reporter subject said
+  kind-sound (Report reporter subject said) a = reported-sound m (comes (Report reporter subject said) a) slots reports reporter subject said
   kind-sound (Fail sender subject) a = failed-sound m (comes (Fail sender subject) a) subject (failed-other (n .me) sender subject (a .not-this-node))
   kind-sound (Request candidate) a = request-sound m slots bitmap candidate (h .epoch) (h .config) (comes (Request candidate) a) (risen-to (n .current) (h .epoch))
   kind-sound (Ack voter candidate) a = ack-sound m slots voter candidate (h .epoch) (comes (Ack voter candidate) a)
   kind-sound (Probe subject echo) a =
       probed-sound m (comes (Probe subject echo) a) slots subject echo (λ e. eqb-false (n .me) subject (none 0 (eqb (n .me) subject ∷ false ∷ []) (a .not-this-node)) (sym e))
-  kind-sound Tick a = ticked-sound m (comes Tick a) reports
+  kind-sound Tick a = ticked-sound m (comes Tick a) slots reports
 
 frame-sound : (n : Node) (slots reports line : List ℕ) → sound n ≡ true → sound (onFrame n slots reports line .outcome .node) ≡ true
 unfolding onFrame

@@ -11,7 +11,7 @@ use Rattle.nodesets.specs.declared.NodeSet.{NodeSet}
 use Rattle.answers.specs.Answers.{number}
 use Rattle.answers.specs.declared.Answer.the-variants.{Done, Granted}
 use Rattle.answers.specs.declared.Answer.the-variants as answer
-use Rattle.state.specs.Node.{recordAt, masters, roleAt, followed}
+use Rattle.state.specs.Node.{recordAt, votingMasters, roleAt, followed}
 use Rattle.state.specs.Changes.{withConfig, withPing, withFlag, withRecords, withCurrent, withClock, withElection, onRecord, arrived}
 use Rattle.state.specs.Outcomes.{Stepped}
 use Rattle.state.specs.declared.Node.{Node}
@@ -90,9 +90,9 @@ module _ (n : Node) (slots reports : List ℕ) (s : Stepped) (h : Header) where
     pub node : after ≡ later
     pub tables : TablesKept slots reports s
 
-  -- a report is stored: its entry, the time plus one, and the subject's flag by who signals it then
+  -- a report is stored: its entry, the time plus one, and the subject's flag by the voting masters that signal it then
   pub record ReportStored (reporter subject : ℕ) : Type 0 where
-    pub node : after ≡ onRecord subject (withFlag (flagIfSignalled later (masters later) (s .reports) subject (recordAt n subject .flag))) later
+    pub node : after ≡ onRecord subject (withFlag (flagIfSignalled later (votingMasters later slots) (s .reports) subject (recordAt n subject .flag))) later
     pub entry : s .reports ≡ set reports (reportAt subject reporter) (h .time + 1)
     pub slots-kept : s .slots ≡ slots
 
@@ -116,10 +116,10 @@ module _ (n : Node) (slots reports : List ℕ) (s : Stepped) (h : Header) where
     pub node : after ≡ probedOn subject echo
     pub tables : TablesKept slots reports s
 
-  -- tick: flags, each node's by itself
+  -- tick: flags, each node's by itself, and by the voting masters that signal it
   pub record TickChanges : Type 0 where
     pub flags : FlagsOnly later after
-    pub each : (k : ℕ) → k < n .size → recordAt after k .flag ≡ tickFlag later reports k
+    pub each : (k : ℕ) → k < n .size → recordAt after k .flag ≡ tickFlag later slots reports k
     pub tables : TablesKept slots reports s
 
   -- vote request: 10 sets lastVoteEpoch and the vote time of the candidate's master; 11 to 18 nothing more
@@ -172,9 +172,10 @@ LineChanges n slots reports line =
     let s = onFrame n slots reports line in
     (T (turnsAway (s .outcome .answer)) → ⊥) → FrameChanges n slots reports s (bitmapOf line) (frameOf line)
 
--- opening: 0 opens, any other answer past 1 to 8 (24, 25, 26, 28, 9) moves the clock only
+-- opening: 0 opens, with the voting masters by the table as the set; any other answer past 1 to 8 (24, 25, 26, 28, 9) moves the
+-- clock only
 pub record OpeningChanges (n : Node) (slots : List ℕ) (time : ℕ) : Type 0 where
-  pub opened : opens n slots time .answer ≡ Done → opens n slots time .node ≡ opening (withClock time n)
+  pub opened : opens n slots time .answer ≡ Done → opens n slots time .node ≡ opening (withClock time n) slots
   pub clock-only : (opens n slots time .answer ≡ Done → ⊥) → (T (turnsAway (opens n slots time .answer)) → ⊥) → opens n slots time .node ≡ withClock time n
 
 -- marks: nothing but the marks
