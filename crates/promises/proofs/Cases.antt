@@ -1,21 +1,21 @@
--- Document 01's cases that are marked with a star and document 02's of [10], all rows as one statement.
+-- Document 01's cases that are marked with a star and document 02's of [3] and [10], all rows as one statement.
 use mathlib.Core.Path.{_≡_, refl, ap, _∙_}
 use mathlib.Core.Bool.{Bool, true, false}
 use mathlib.Core.List.{List, [], _∷_, _++_, map}
 use Prim.Native.Nat.{ℕ, zero, suc, _^_, _<_}
 use native.Mathlib.Omega.{arith}
-use lib.Dec.{ltb}
+use lib.Dec.{eqb, ltb}
 use lib.ListN.{length, getD, replicate}
 use borrow.Author.Tests.{ltb-true}
 use Rattle.tables.specs.Sizes.{unowned, slotCount, reportCount}
 use Rattle.tables.specs.Below.{every}
 use Rattle.tables.specs.Checks.{checked, allOf}
-use Rattle.tables.specs.Lists.{firstFrom, firstAt}
+use Rattle.tables.specs.Lists.{firstFrom, firstAt, isFound}
 use Rattle.tables.specs.Sets.{claimed}
 use Rattle.tables.specs.declared.Found.{Found}
 use Rattle.tables.specs.declared.Found.the-variants.{Nothing, At}
-use Rattle.answers.specs.declared.Answer.the-variants.{Granted, StaleEpoch, AlreadyVoted, VotedLately, Outdated, ClaimsNothing}
-use Rattle.state.specs.Node.{recordAt, listed, roleAt, followed}
+use Rattle.answers.specs.declared.Answer.the-variants.{Granted, NotVoting, StaleEpoch, AlreadyVoted, VotedLately, Outdated, ClaimsNothing}
+use Rattle.state.specs.Node.{recordAt, listed, masterAt, owns, roleAt, followed}
 use Rattle.state.specs.Changes.{withRecords, withClock, withCurrent, withVoted, arrived}
 use Rattle.state.specs.Outcomes.{answered, Stepped}
 use Rattle.state.specs.declared.Node.{Node}
@@ -37,7 +37,7 @@ use Rattle.kinds.specs.Kinds.{keeping, onKind}
 use Rattle.node.specs.Step.{onFrame}
 use Rattle.tables.proofs.Checks.{part}
 use Rattle.answers.proofs.Checks.{by-check}
-use Rattle.promises.specs.Cases.{voter, slots, reports, claimOfSlot0, claimOfSlot16383, claimOfNothing, Asked, asks, ask, requestOf, lineOf, VoteRow, voteRows, outdatedRows, emptyRows, Row, key, votes, voteAnswered, votesAnswered, AllCases}
+use Rattle.promises.specs.Cases.{voter, slots, slotsOfOthers, reports, claimOfSlot0, claimOfSlot16383, claimOfNothing, Asked, asks, ask, requestOf, lineOf, VoteRow, voteRows, outdatedRows, emptyRows, emptyMasterRows, Row, key, votes, voteAnswered, votesAnswered, AllCases}
 use Rattle.promises.specs.Cases as table
 
 -- ---- one request of the table
@@ -49,17 +49,21 @@ slots-long : length slots ≡ slotCount
 unfolding slots
 slots-long = refl
 
+others-long : length slotsOfOthers ≡ slotCount
+unfolding slotsOfOthers
+others-long = refl
+
 reports-long : length reports ≡ reportCount
 unfolding reports
 reports-long = refl
 
 -- a line that passes is the request: it reads as what was written
-asked-step : (n : Node) (q : Asked) (o : Outcome) → Fits (requestOf q) (q .bitmap) → refusal n slotCount reportCount (Good (requestOf q)) ≡ Passed
-    → requested (arrivedAt q n) slots (q .bitmap) (q .candidate) (q .epoch) (q .config) ≡ o → onFrame n slots reports (lineOf q) ≡ keeping slots reports o
+asked-step : (lent : List ℕ) → length lent ≡ slotCount → (n : Node) (q : Asked) (o : Outcome) → Fits (requestOf q) (q .bitmap) → refusal n slotCount reportCount (Good (requestOf q)) ≡ Passed
+    → requested (arrivedAt q n) lent (q .bitmap) (q .candidate) (q .epoch) (q .config) ≡ o → onFrame n lent reports (lineOf q) ≡ keeping lent reports o
 unfolding lineOf onFrame onKind
-asked-step n q o f p e = rw (by-check, one-line .read-back (requestOf q) (q .bitmap) f, one-line .bitmap-back (requestOf q) (q .bitmap) f refl, slots-long, reports-long, p, e)
+asked-step lent l n q o f p e = rw (by-check, one-line .read-back (requestOf q) (q .bitmap) f, one-line .bitmap-back (requestOf q) (q .bitmap) f refl, l, reports-long, p, e)
 
--- where no owner is newer: only slot 0 has an owner
+-- where no owner is newer: only the slots 0, 1 and 2 have owners
 unlisted : (c x l : Bool) → l ≡ false → allOf (c ∷ l ∷ x ∷ []) ≡ false
 unlisted true x l e = rw e
 unlisted false x l e = refl
@@ -74,21 +78,42 @@ unfolding firstFrom
 skip p x f zero i = refl
 skip p x f (suc k) i = rw (f i) (skip p x f k (suc i))
 
-none-passes : (p : ℕ → ℕ → Bool) (a x k : ℕ) → p 0 a ≡ false → ((i : ℕ) → p i x ≡ false) → firstAt p (a ∷ replicate k x) ≡ Nothing
+none-passes : (p : ℕ → ℕ → Bool) (a b c x k : ℕ) → p 0 a ≡ false → p 1 b ≡ false → p 2 c ≡ false → ((i : ℕ) → p i x ≡ false) → firstAt p (a ∷ b ∷ c ∷ replicate k x) ≡ Nothing
 unfolding firstFrom
-none-passes p a x k e f = rw e (skip p x f k 1)
+none-passes p a b c x k d e f g = rw (d, e, f) (skip p x g k 3)
 
-nothing-newer : (m : Node) (bitmap : List ℕ) (config : ℕ) → listed m unowned ≡ false → ltb config (recordAt m 0 .config) ≡ false → firstAt (newer m bitmap config) slots ≡ Nothing
-unfolding slots
-nothing-newer m bitmap config l o =
-    none-passes (newer m bitmap config) 0 unowned 16383 (older (claimed bitmap 0) (listed m 0) (ltb config (recordAt m 0 .config)) o)
-    (λ i. unlisted (claimed bitmap i) (ltb config (recordAt m unowned .config)) (listed m unowned) l)
+module _ (m : Node) (bitmap : List ℕ) (config : ℕ) where
+  -- an owner's known configEpoch is not above the request's
+  abbrev Older : ℕ → Type 0
+  Older o = ltb config (recordAt m o .config) ≡ false
+
+  owner-older : (k : ℕ) → Older k → newer m bitmap config k k ≡ false
+  owner-older k o = older (claimed bitmap k) (listed m k) (ltb config (recordAt m k .config)) o
+
+  nothing-newer : listed m unowned ≡ false → Older 0 → Older 1 → Older 2 → firstAt (newer m bitmap config) slots ≡ Nothing
+  unfolding slots
+  nothing-newer l a b c =
+      none-passes (newer m bitmap config) 0 1 2 unowned 16381 (owner-older 0 a) (owner-older 1 b) (owner-older 2 c)
+      (λ i. unlisted (claimed bitmap i) (ltb config (recordAt m unowned .config)) (listed m unowned) l)
 
 -- then the checks decide
 settles : (m : Node) (bitmap : List ℕ) (candidate epoch config : ℕ) (x : Found) → firstAt (newer m bitmap config) slots ≡ x
-    → requested m slots bitmap candidate epoch config ≡ checked (answered m) (requestChecks m (roleAt m candidate) bitmap epoch) (byOwners m (followed (roleAt m candidate)) epoch x)
+    → requested m slots bitmap candidate epoch config ≡ checked (answered m) (requestChecks m slots (roleAt m candidate) bitmap epoch) (byOwners m (followed (roleAt m candidate)) epoch x)
 unfolding requested
-settles m bitmap candidate epoch config x e = ap (λ (f : Found). checked (answered m) (requestChecks m (roleAt m candidate) bitmap epoch) (byOwners m (followed (roleAt m candidate)) epoch f)) e
+settles m bitmap candidate epoch config x e = ap (λ (f : Found). checked (answered m) (requestChecks m slots (roleAt m candidate) bitmap epoch) (byOwners m (followed (roleAt m candidate)) epoch f)) e
+
+-- where node 1 owns nothing, 11 comes before all else
+owns-nothing : owns slotsOfOthers 1 ≡ false
+unfolding slotsOfOthers
+owns-nothing = ap isFound (none-passes (λ place entry. eqb entry 1) 0 unowned 2 unowned 16381 refl refl refl (λ i. refl))
+
+not-both : (b : Bool) → allOf (b ∷ false ∷ []) ≡ false
+not-both true = refl
+not-both false = refl
+
+unslotted : (m : Node) (bitmap : List ℕ) (candidate epoch config : ℕ) → m .me ≡ 1 → requested m slotsOfOthers bitmap candidate epoch config ≡ answered m NotVoting
+unfolding requested
+unslotted m bitmap candidate epoch config e = rw (e, owns-nothing, not-both (masterAt m 1))
 
 -- ---- the requests
 
@@ -112,6 +137,9 @@ q7 = asks 3 6 2 1000 claimOfNothing
 
 abbrev q8 : Asked
 q8 = asks 3 6 2 1000 claimOfSlot16383
+
+abbrev q9 : Asked
+q9 = ask 3 6 2 1000
 
 -- ---- each fits its line
 
@@ -170,84 +198,99 @@ n7 = arrivedAt q7 voter
 abbrev n8 : Node
 n8 = granted 0 6 (arrivedAt q8 n7)
 
+-- without slots it grants nothing
+abbrev n9 : Node
+n9 = arrivedAt q2 n1
+
+abbrev n10 : Node
+n10 = arrivedAt q9 n9
+
 -- and none is turned away
 abbrev looks : Node → Asked → Check
 looks n q = refusal n slotCount reportCount (Good (requestOf q))
 
 abbrev checks : List Check
-checks = looks voter q1 ∷ looks n1 q2 ∷ looks n2 q2 ∷ looks n3 q4 ∷ looks n4 q5 ∷ looks voter q6 ∷ looks voter q7 ∷ looks n7 q8 ∷ []
+checks = looks voter q1 ∷ looks n1 q2 ∷ looks n2 q2 ∷ looks n3 q4 ∷ looks n4 q5 ∷ looks voter q6 ∷ looks voter q7 ∷ looks n7 q8 ∷ looks n9 q9 ∷ []
 
-all-pass : checks ≡ replicate 8 Passed
+all-pass : checks ≡ replicate 9 Passed
 unfolding every withRecords withClock withCurrent withVoted freshNode casesNode arraysWhole boundsKept before idsAscend recordsSound electionSound marksAscend marksSound ownClear sound isBeyond frameRefusals refusals granted voter
 all-pass = refl
 
-passes : (k : ℕ) → getD checks k Passed ≡ getD (replicate 8 Passed) k Passed
+passes : (k : ℕ) → getD checks k Passed ≡ getD (replicate 9 Passed) k Passed
 passes k = ap (λ (l : List Check). getD l k Passed) all-pass
 
 vote1 : requested n1 slots claimOfSlot0 3 4 2 ≡ answered n1 StaleEpoch
-unfolding withRecords withClock withCurrent withVoted freshNode casesNode granted voter requested
+unfolding withRecords withClock withCurrent withVoted freshNode casesNode granted voter requested slots firstFrom
 vote1 = refl
 
 vote2 : requested (arrivedAt q2 n1) slots claimOfSlot0 3 5 2 ≡ answered n2 Granted
-unfolding withRecords withClock withCurrent withVoted freshNode casesNode granted voter claimOfSlot0
-vote2 = settles (arrivedAt q2 n1) claimOfSlot0 3 5 2 Nothing (nothing-newer (arrivedAt q2 n1) claimOfSlot0 2 refl refl)
+unfolding withRecords withClock withCurrent withVoted freshNode casesNode granted voter claimOfSlot0 slots firstFrom
+vote2 = settles (arrivedAt q2 n1) claimOfSlot0 3 5 2 Nothing (nothing-newer (arrivedAt q2 n1) claimOfSlot0 2 refl refl refl refl)
 
 vote3 : requested n3 slots claimOfSlot0 3 5 2 ≡ answered n3 AlreadyVoted
-unfolding withRecords withClock withCurrent withVoted freshNode casesNode granted voter requested
+unfolding withRecords withClock withCurrent withVoted freshNode casesNode granted voter requested slots firstFrom
 vote3 = refl
 
 vote4 : requested n4 slots claimOfSlot0 4 6 2 ≡ answered n4 VotedLately
-unfolding withRecords withClock withCurrent withVoted freshNode casesNode granted voter requested claimOfSlot0
+unfolding withRecords withClock withCurrent withVoted freshNode casesNode granted voter requested claimOfSlot0 slots firstFrom
 vote4 = refl
 
 vote5 : requested (arrivedAt q5 n4) slots claimOfSlot0 4 6 2 ≡ answered n5 Granted
-unfolding withRecords withClock withCurrent withVoted freshNode casesNode granted voter claimOfSlot0
-vote5 = settles (arrivedAt q5 n4) claimOfSlot0 4 6 2 Nothing (nothing-newer (arrivedAt q5 n4) claimOfSlot0 2 refl refl)
+unfolding withRecords withClock withCurrent withVoted freshNode casesNode granted voter claimOfSlot0 slots firstFrom
+vote5 = settles (arrivedAt q5 n4) claimOfSlot0 4 6 2 Nothing (nothing-newer (arrivedAt q5 n4) claimOfSlot0 2 refl refl refl refl)
 
 slot-0 : firstAt (newer (arrivedAt q6 voter) claimOfSlot0 1) slots ≡ At 0
 unfolding withRecords withClock withCurrent withVoted freshNode casesNode voter slots firstFrom claimOfSlot0
 slot-0 = refl
 
 vote6 : requested (arrivedAt q6 voter) slots claimOfSlot0 3 5 1 ≡ answered (arrivedAt q6 voter) (Outdated 0)
-unfolding withRecords withClock withCurrent withVoted freshNode casesNode granted voter claimOfSlot0
+unfolding withRecords withClock withCurrent withVoted freshNode casesNode granted voter claimOfSlot0 slots firstFrom
 vote6 = settles (arrivedAt q6 voter) claimOfSlot0 3 5 1 (At 0) slot-0
 
 vote7 : requested n7 slots claimOfNothing 3 6 2 ≡ answered n7 ClaimsNothing
-unfolding withRecords withClock withCurrent withVoted freshNode casesNode granted voter requested claimOfNothing
+unfolding withRecords withClock withCurrent withVoted freshNode casesNode granted voter requested claimOfNothing slots firstFrom
 vote7 = refl
 
 vote8 : requested (arrivedAt q8 n7) slots claimOfSlot16383 3 6 2 ≡ answered n8 Granted
-unfolding withRecords withClock withCurrent withVoted freshNode casesNode granted voter claimOfSlot16383
-vote8 = settles (arrivedAt q8 n7) claimOfSlot16383 3 6 2 Nothing (nothing-newer (arrivedAt q8 n7) claimOfSlot16383 2 refl refl)
+unfolding withRecords withClock withCurrent withVoted freshNode casesNode granted voter claimOfSlot16383 slots firstFrom
+vote8 = settles (arrivedAt q8 n7) claimOfSlot16383 3 6 2 Nothing (nothing-newer (arrivedAt q8 n7) claimOfSlot16383 2 refl refl refl refl)
 
 -- ---- the rows, one after the other
 
-row : (n : Node) (r : VoteRow) (rs : List VoteRow) (s : Stepped) → onFrame n slots reports (lineOf (r .asked)) ≡ s → voteAnswered (r .asked) s ≡ r → votesAnswered (s .outcome .node) rs ≡ rs → votesAnswered n (r ∷ rs) ≡ r ∷ rs
+row : (lent : List ℕ) (n : Node) (r : VoteRow) (rs : List VoteRow) (s : Stepped) → onFrame n lent reports (lineOf (r .asked)) ≡ s → voteAnswered (r .asked) s ≡ r → votesAnswered lent (s .outcome .node) rs ≡ rs
+    → votesAnswered lent n (r ∷ rs) ≡ r ∷ rs
 unfolding votesAnswered
-row n r rs s e f g = rw (e, f, g)
+row lent n r rs s e f g = rw (e, f, g)
 
-done : (n : Node) → votesAnswered n [] ≡ []
+done : (lent : List ℕ) (n : Node) → votesAnswered lent n [] ≡ []
 unfolding votesAnswered
-done n = refl
+done lent n = refl
 
-votes-cases : votesAnswered voter voteRows ≡ voteRows
+votes-cases : votesAnswered slots voter voteRows ≡ voteRows
 unfolding withRecords withClock withCurrent withVoted freshNode casesNode granted voter
 votes-cases =
-    row voter _ _ _ (asked-step voter q1 _ (fits q1 slot-0-alone refl) (passes 0) vote1) refl
-    (row n1 _ _ _ (asked-step n1 q2 _ (fits q2 slot-0-alone refl) (passes 1) vote2) refl
-    (row n2 _ _ _ (asked-step n2 q2 _ (fits q2 slot-0-alone refl) (passes 2) vote3) refl
-    (row n3 _ _ _ (asked-step n3 q4 _ (fits q4 slot-0-alone refl) (passes 3) vote4) refl
-    (row n4 _ _ _ (asked-step n4 q5 _ (fits q5 slot-0-alone refl) (passes 4) vote5) refl (done n5)))))
+    row slots voter _ _ _ (asked-step slots slots-long voter q1 _ (fits q1 slot-0-alone refl) (passes 0) vote1) refl
+    (row slots n1 _ _ _ (asked-step slots slots-long n1 q2 _ (fits q2 slot-0-alone refl) (passes 1) vote2) refl
+    (row slots n2 _ _ _ (asked-step slots slots-long n2 q2 _ (fits q2 slot-0-alone refl) (passes 2) vote3) refl
+    (row slots n3 _ _ _ (asked-step slots slots-long n3 q4 _ (fits q4 slot-0-alone refl) (passes 3) vote4) refl
+    (row slots n4 _ _ _ (asked-step slots slots-long n4 q5 _ (fits q5 slot-0-alone refl) (passes 4) vote5) refl (done slots n5)))))
 
-outdated-cases : votesAnswered voter outdatedRows ≡ outdatedRows
+outdated-cases : votesAnswered slots voter outdatedRows ≡ outdatedRows
 unfolding withRecords withClock withCurrent withVoted freshNode casesNode voter
-outdated-cases = row voter _ _ _ (asked-step voter q6 _ (fits q6 slot-0-alone refl) (passes 5) vote6) refl (done _)
+outdated-cases = row slots voter _ _ _ (asked-step slots slots-long voter q6 _ (fits q6 slot-0-alone refl) (passes 5) vote6) refl (done slots _)
 
-empty-cases : votesAnswered voter emptyRows ≡ emptyRows
+empty-cases : votesAnswered slots voter emptyRows ≡ emptyRows
 unfolding withRecords withClock withCurrent withVoted freshNode casesNode granted voter
 empty-cases =
-    row voter _ _ _ (asked-step voter q7 _ (fits q7 no-slot refl) (passes 6) vote7) refl
-    (row n7 _ _ _ (asked-step n7 q8 _ (fits q8 slot-16383-alone refl) (passes 7) vote8) refl (done n8))
+    row slots voter _ _ _ (asked-step slots slots-long voter q7 _ (fits q7 no-slot refl) (passes 6) vote7) refl
+    (row slots n7 _ _ _ (asked-step slots slots-long n7 q8 _ (fits q8 slot-16383-alone refl) (passes 7) vote8) refl (done slots n8))
+
+empty-master-cases : votesAnswered slotsOfOthers voter emptyMasterRows ≡ emptyMasterRows
+unfolding withRecords withClock withCurrent withVoted freshNode casesNode voter
+empty-master-cases =
+    row slotsOfOthers voter _ _ _ (asked-step slotsOfOthers others-long voter q1 _ (fits q1 slot-0-alone refl) (passes 0) (unslotted n1 claimOfSlot0 3 4 2 refl)) refl
+    (row slotsOfOthers n1 _ _ _ (asked-step slotsOfOthers others-long n1 q2 _ (fits q2 slot-0-alone refl) (passes 1) (unslotted n9 claimOfSlot0 3 5 2 refl)) refl
+    (row slotsOfOthers n9 _ _ _ (asked-step slotsOfOthers others-long n9 q9 _ (fits q9 slot-0-alone refl) (passes 8) (unslotted n10 claimOfSlot0 3 6 2 refl)) refl (done slotsOfOthers n10)))
 
 key-rows : (ks : List KeyRow) (rest : List Row) → map table.rowAnswered (map key ks ++ rest) ≡ map key (map keyAnswered ks) ++ map table.rowAnswered rest
 key-rows [] rest = refl
@@ -255,8 +298,5 @@ key-rows (k ∷ ks) rest = ap (λ (rs : List Row). key (keyAnswered k) ∷ rs) (
 
 pub all-cases : AllCases
 all-cases =
-    key-rows keyRows (votes voteRows ∷ votes outdatedRows ∷ votes emptyRows ∷ [])
-    ∙ ap (λ (ks : List KeyRow). map key ks ++ votes (votesAnswered voter voteRows) ∷ votes (votesAnswered voter outdatedRows) ∷ votes (votesAnswered voter emptyRows) ∷ []) key-cases
-    ∙ ap (λ (rs : List VoteRow). map key keyRows ++ votes rs ∷ votes (votesAnswered voter outdatedRows) ∷ votes (votesAnswered voter emptyRows) ∷ []) votes-cases
-    ∙ ap (λ (rs : List VoteRow). map key keyRows ++ votes voteRows ∷ votes rs ∷ votes (votesAnswered voter emptyRows) ∷ []) outdated-cases
-    ∙ ap (λ (rs : List VoteRow). map key keyRows ++ votes voteRows ∷ votes outdatedRows ∷ votes rs ∷ []) empty-cases
+    key-rows keyRows (votes slots voteRows ∷ votes slots outdatedRows ∷ votes slots emptyRows ∷ votes slotsOfOthers emptyMasterRows ∷ [])
+    ∙ (λ i. map key (key-cases i) ++ votes slots (votes-cases i) ∷ votes slots (outdated-cases i) ∷ votes slots (empty-cases i) ∷ votes slotsOfOthers (empty-master-cases i) ∷ [])

@@ -1,6 +1,6 @@
 -- Document 01, "Node for the cases": every case that is marked with a star, keys and votes, and the requests of document 02,
--- [10], as rows of one table. The rows of votes go through the definition of the whole `frame`, from the line of 4,152 digits
--- to the answer.
+-- [3] and [10], as rows of one table. The rows of votes go through the definition of the whole `frame`, from the line of 4,152
+-- digits to the answer.
 use Prim.Native.Nat.{ℕ, _+_}
 use mathlib.Core.Path.{_≡_}
 use mathlib.Core.List.{List, [], _∷_, _++_, map}
@@ -24,9 +24,14 @@ use Rattle.node.specs.Step.{onFrame}
 unfoldable pub voter : Node
 voter = withCurrent 5 (withVoted 1 (onRecord 0 (λ r. withFlag (Fail 0) (withConfig 2 r)) casesNode))
 
--- node 0 owns slot 0
+-- node 0 owns slot 0 and, since only a master with slots counts (document 02, [3]), the voter slot 1 and the reporter, node 2,
+-- slot 2
 unfoldable pub slots : List ℕ
-slots = 0 ∷ replicate 16383 unowned
+slots = 0 ∷ 1 ∷ 2 ∷ replicate 16381 unowned
+
+-- the same but for the voter's: it owns nothing here
+unfoldable pub slotsOfOthers : List ℕ
+slotsOfOthers = 0 ∷ unowned ∷ 2 ∷ replicate 16381 unowned
 
 unfoldable pub reports : List ℕ
 reports = replicate reportCount 0
@@ -64,10 +69,10 @@ pub record VoteRow : Type 0 where
   pub answer : Said
   pub current : ℕ
 
--- a key; or requests to the voter, one after the other
+-- a key; or requests to the voter, one after the other, each lent that slot table
 pub data Row : Type 0 where
   key : KeyRow → Row
-  votes : List VoteRow → Row
+  votes : List ℕ → List VoteRow → Row
 
 abbrev pub asks : ℕ → ℕ → ℕ → ℕ → List ℕ → Asked
 asks candidate epoch config time bitmap = record { candidate = candidate; epoch = epoch; config = config; time = time; bitmap = bitmap }
@@ -102,23 +107,33 @@ emptyRows =
     ∷ gives (asks 3 6 2 1000 claimOfSlot16383) (plain 10) 6
     ∷ []
 
+-- document 02, [3]: the voter owns no slot. Candidate 3 at epoch 4: 11, not 12; at epoch 5: 11, not 10; at epoch 6: 11,
+-- currentEpoch 6
+abbrev pub emptyMasterRows : List VoteRow
+emptyMasterRows =
+    gives (ask 3 4 2 1000) (plain 11) 5
+    ∷ gives (ask 3 5 2 1000) (plain 11) 5
+    ∷ gives (ask 3 6 2 1000) (plain 11) 6
+    ∷ []
+
 abbrev pub rows : List Row
-rows = map key keyRows ++ votes voteRows ∷ votes outdatedRows ∷ votes emptyRows ∷ []
+rows = map key keyRows ++ votes slots voteRows ∷ votes slots outdatedRows ∷ votes slots emptyRows ∷ votes slotsOfOthers emptyMasterRows ∷ []
 
 -- ---- the same, by the definitions
 
 abbrev pub voteAnswered : Asked → Stepped → VoteRow
 voteAnswered q s = record { asked = q; answer = said (s .outcome .answer); current = s .outcome .node .current }
 
-unfoldable pub votesAnswered : Node → List VoteRow → List VoteRow
-votesAnswered n [] = []
-votesAnswered n (r ∷ rs) =
-    let s = onFrame n slots reports (lineOf (r .asked)) in
-    voteAnswered (r .asked) s ∷ votesAnswered (s .outcome .node) rs
+-- each request is lent the same tables
+unfoldable pub votesAnswered : List ℕ → Node → List VoteRow → List VoteRow
+votesAnswered lent n [] = []
+votesAnswered lent n (r ∷ rs) =
+    let s = onFrame n lent reports (lineOf (r .asked)) in
+    voteAnswered (r .asked) s ∷ votesAnswered lent (s .outcome .node) rs
 
 abbrev pub rowAnswered : Row → Row
 rowAnswered (key r) = key (keyAnswered r)
-rowAnswered (votes rs) = votes (votesAnswered voter rs)
+rowAnswered (votes lent rs) = votes lent (votesAnswered lent voter rs)
 
 -- what the definitions make of each row is the row
 abbrev pub AllCases : Type 0
