@@ -151,7 +151,7 @@ const TEXTS: [u8; 1574] = *b"done~\
     follows itself~\
     epoch at the top~\
     granted~\
-    refused, not a master with slots~\
+    refused, not a voting master~\
     refused, epoch too low~\
     refused, voted in that epoch already~\
     refused, no replica of a listed master~\
