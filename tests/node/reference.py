@@ -81,6 +81,10 @@ class Node:
     def owned(self, slot):
         return self.owner[slot] < self.size
 
+    def voting(self, k):
+        """A voting master, document 02, [3]: a master now that owns a slot of this node's own table."""
+        return self.master(k) and k in self.owner
+
     # ---- refusals 2 to 6, in the document's order; the tables' lengths and the state are always good here
 
     def refusal(self, f):
@@ -175,18 +179,18 @@ class Node:
         return 0
 
     def judge(self, k):
-        """PFAIL becomes FAIL if more than half of all masters signal it."""
+        """PFAIL becomes FAIL if more than half of the voting masters signal it; the subject is counted among them, and signals not."""
         if self.flag[k] != "PFAIL":
             return
-        masters = [m for m in range(self.size) if self.master(m)]
+        voters = [m for m in range(self.size) if self.voting(m)]
         signals = 0
-        for m in masters:
+        for m in voters:
             if m == self.me:
                 signals += 1
             elif m != k and (k, m) in self.reported:
                 then = self.reported[k, m]
                 signals += then <= self.clock and self.clock - then <= 2 * self.T
-        if 2 * signals > len(masters):
+        if 2 * signals > len(voters):
             self.flag[k], self.failed_at[k] = "FAIL", self.clock
 
     def fail(self, f):
@@ -197,8 +201,8 @@ class Node:
 
     def request(self, f):
         epoch, candidate = f["current"], f["candidate"]
-        if not self.master(self.me):
-            return 11
+        if not self.voting(self.me):
+            return 11  # document 02, [3]: a master without slots too
         if epoch < self.current:
             return 12
         if epoch <= self.last_vote:

@@ -44,7 +44,7 @@ NAMES = {
     8: "follows itself",
     9: "epoch at the top",
     10: "granted",
-    11: "refused, not a master",
+    11: "refused, not a voting master",
     12: "refused, epoch too low",
     13: "refused, voted in that epoch already",
     14: "refused, no replica of a listed master",
@@ -114,7 +114,7 @@ class Member(node01.Node):
         if self.current == TOP:
             return 9
         self.current += 1
-        voters = {k for k in range(self.size) if self.master(k)}
+        voters = {k for k in range(self.size) if self.voting(k)}  # document 02, [3], by this node's table now
         self.election = dict(epoch=self.current, opened=time, voters=voters, heard=set())
         return 0
 
