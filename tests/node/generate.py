@@ -4,15 +4,20 @@
     python3 tests/node/generate.py                     writes crates/ukweribaso/stdin and stdout
     python3 tests/node/generate.py --seed 7 --to DIR   the same with other numbers, into DIR
 
-First the lines of document 01, then written scenes at each limit, then frames at random, near the limits of the state
-that the reference is in. Prints how often each answer occurs. The seed is fixed, so both files come out the same.
+First the lines of document 01, then written scenes, then frames at random, near the limits of the state that the reference
+is in. The program's node owns no slot, and no line can make it an owner. So it gives no vote (document 02, [3]): a request is
+answered 11, and nothing that is printed tells a flag or an owner. These show in the stored runs of `replay`, in words. What
+shows here is which line is a frame, every refusal before 11, that 11 comes before 12 to 18, and the clock and currentEpoch.
+
+Prints how often each answer occurs, and what stands behind each 11. The seed is fixed, so both files come out the same.
 """
 import argparse
+import copy
 import random
 from collections import Counter
 from pathlib import Path
 
-from reference import LENGTHS, LONGEST, TOP, Feed, Node
+from reference import LENGTHS, LONGEST, TOP, Feed, Node, parse
 
 CRATE = Path(__file__).resolve().parents[2] / "crates" / "ukweribaso"
 
@@ -42,7 +47,7 @@ def fail(sender, subject, time):
 
 
 def request(candidate, current, config, time, slots=(9000,)):
-    """It claims a slot that nobody owns in the scenes, where it need not claim another."""
+    """It claims a slot that nobody owns in the first scenes, where it need not claim another."""
     return bytes([4, candidate, 0, 0]) + wide(current) + wide(config) + wide(time) + bitmap(slots)
 
 
@@ -58,6 +63,14 @@ def tick(time):
     return bytes([7, 0, 0, 0]) + wide(time)
 
 
+def with_a_slot(node, line):
+    """What a node would answer if it owned one slot, which the request does not claim if it leaves any. The node itself stays."""
+    claimed = set(parse(line)["claims"])
+    node = copy.deepcopy(node)
+    node.owner[next((s for s in range(16384) if s not in claimed), 0)] = node.me
+    return node.line(line)
+
+
 class Tape:
     """The input so far, and the node that has read it."""
 
@@ -66,11 +79,15 @@ class Tape:
         self.node = Node()
         self.feed = Feed(self.node)
         self.lines, self.printed, self.seen = [], [], Counter()
+        self.behind = Counter()  # what the requests that are answered 11 would get, if this node owned a slot
 
     def raw(self, line, expected=None):
+        before = copy.deepcopy(self.node) if line[:2] == b"04" else None
         answer, used = self.feed.call(line + b"\n")
         assert used == len(line) + 1
         assert expected is None or answer == expected, (len(self.lines), line[:60], answer, expected)
+        if answer == 11:
+            self.behind[with_a_slot(before, line)] += 1
         self.lines.append(line)
         self.printed.append(f"{answer} {self.node.current} {self.node.last_vote}")
         kind = int(line[:2]) if answer not in (2, 3) and line[:1] == b"0" else 0
@@ -93,128 +110,51 @@ def example(t):
         t.raw(line.encode(), answer)
 
 
-def pending(t):
-    """Pending 1,000 ms: no flag; 1,001: PFAIL. A vote for a replica of the node tells, since the other master signals it."""
+def no_votes(t):
+    """Every request that gets past 1 to 8 is answered 11: this node owns no slot. Each of the later answers stands behind one of
+    these, but 16, for which a vote must have been given. Clock and currentEpoch move as for any refusal of a vote."""
     n = t.node
     start = t.now(10)
+    no_vote(t, 13, request(3, 0, 0, start))
+    no_vote(t, 13, request(3, 0, 0, start, []))
+    no_vote(t, 10, request(3, 1, 0, start))
+    assert (n.current, n.last_vote, n.clock) == (1, 0, start)
     t.frame(probe(0, 1, start), 0)
-    t.frame(probe(0, 0, start), 0)
-    t.frame(probe(0, 0, start + 500), 0)
-    t.frame(report(2, 0, 1, start + 900), 0)
-    t.frame(tick(start + 1000), 0)
-    t.frame(request(3, n.current + 1, 0, start + 1000), 15)
-    t.frame(tick(start + 1001), 0)
-    t.frame(request(3, n.current, 0, start + 1001), 10)
-    t.frame(probe(0, 1, start + 1001), 0)
-    t.frame(request(3, n.current + 1, 0, start + 1001), 15)
-
-
-def old_report(t):
-    """A report 2,000 ms old signals, 2,001 doesn't."""
-    n = t.node
-    for age, answer in ((2000, 10), (2001, 15), (1999, 10), (2002, 15)):
-        start = t.now(10_000)
-        t.frame(probe(0, 1, start), 0)
-        t.frame(report(2, 0, 2, start), 0)
-        t.frame(probe(0, 0, start), 0)
-        t.frame(report(2, 0, 0, start + 1500), 0)
-        t.frame(tick(start + age), 0)
-        t.frame(request(4, n.current + 1, 0, start + age), answer)
-        # a fresh report finds it PFAIL, and it is FAIL at once; one of a replica finds no majority
-        if answer == 15:
-            t.frame(report(3, 0, 1, start + age), 0)
-            t.frame(request(4, n.current, 0, start + age), 15)
-            t.frame(report(2, 0, 1, start + age), 0)
-            t.frame(request(4, n.current, 0, start + age), 10)
-
-
-def votes(t):
-    """The voter of the document's cases, at epochs that have been reached by now."""
-    n = t.node
-    start = t.now(10_000)
-    base = n.current + 5
-    t.frame(heartbeat(0, base, 2, start, [0]), 0)
+    no_vote(t, 15, request(3, 2, 0, start))
+    no_vote(t, 18, request(3, 2, 0, start, []))
+    # the voter of the document's cases, but for the slot that it has not
+    t.frame(heartbeat(0, 5, 2, start, [0]), 0)
     t.frame(fail(2, 0, start), 0)
-    t.frame(request(3, base - 1, 2, start, [0]), 12)
-    t.frame(request(3, base, 1, start, [0]), 17)
-    t.frame(request(3, base, 2, start, [0]), 10)
-    t.frame(request(3, base, 2, start, [0]), 13)
-    t.frame(request(4, base + 1, 2, start + 1999, [0]), 16)
-    t.frame(request(4, base + 1, 2, start + 2000, [0]), 10)
-    t.frame(request(2, base + 2, 2, start + 2000, [0]), 14)
-    t.frame(request(0, base + 3, 2, start + 2000, [0]), 14)
+    no_vote(t, 12, request(3, 4, 2, start, [0]))
+    no_vote(t, 17, request(3, 5, 1, start, [0]))
+    for _ in range(2):  # no vote is used up by it
+        no_vote(t, 10, request(3, 5, 2, start, [0]))
+    no_vote(t, 10, request(4, 6, 2, start + 1999, [0]))
+    no_vote(t, 10, request(4, 6, 2, start + 2000, [0]))
+    no_vote(t, 14, request(2, 8, 2, start + 2000, [0]))
+    no_vote(t, 14, request(0, 8, 2, start + 2000, []))
+    # one bit, the first or the last one of a byte; all slots, while another master owns them all
+    for slots in ([0], [7], [8], [16376], [16383]):
+        no_vote(t, 10, request(3, n.current + 1, n.current + 1, t.now(2000), slots))
+    t.frame(heartbeat(2, n.current, n.current, t.now(1), range(16384)), 0)
+    no_vote(t, 10, request(3, n.current, n.current, t.now(), range(16384)))
+    no_vote(t, 17, request(3, n.current, 0, t.now(), range(16384)))
+    # what is asked before 11 is answered as ever, and moves nothing
+    moved = (n.current, n.clock)
+    for data, answer in (
+        (request(5, n.current + 1, 0, t.now(1)), 3),
+        (request(1, n.current + 1, 0, t.now(1)), 6),
+        (request(3, n.current + 1, n.current + 2, t.now(1)), 5),
+        (request(3, n.current + 1, 0, t.now() - 1), 4),
+    ):
+        t.frame(data, answer)
+    assert (n.current, n.clock) == moved
 
 
-def claims_nothing(t):
-    """A request is empty by its bitmap alone, whoever owns what: 18, after 14 and before 15 and 16, and currentEpoch has risen."""
-    n = t.node
-    start = t.now(10_000)
-    t.frame(heartbeat(0, n.current, n.config[0], start), 0)
-    for slot in (0, 7, 8, 16376, 16383):
-        t.frame(fail(2, 0, t.now()), 0)
-        t.frame(request(3, n.current + 1, n.current + 1, t.now(2000), []), 18)
-        t.frame(request(3, n.current, n.current, t.now(), [slot]), 10)
-    # it comes before 16 and before 15
-    t.frame(request(4, n.current + 1, 0, t.now(), []), 18)
-    t.frame(request(4, n.current, 0, t.now()), 16)
-    t.frame(probe(0, 1, t.now(4001)), 0)
-    t.frame(request(4, n.current + 5, 0, t.now(), []), 18)
-    t.frame(request(4, n.current, 0, t.now()), 15)
-    # 12, 13 and 14 come before
-    t.frame(request(4, n.current - 1, 0, t.now(), []), 12)
-    t.frame(fail(2, 0, t.now()), 0)
-    t.frame(request(4, n.current, n.current, t.now(), [16383]), 10)
-    t.frame(request(4, n.current, 0, t.now(), []), 13)
-    t.frame(request(2, n.current + 1, 0, t.now(), []), 14)
-
-
-def pongs(t):
-    """FAIL of a master with slots goes only when it is more than 2T old; of a replica, or of a master without slots, at once."""
-    n = t.node
-    start = t.now(10_000)
-    t.frame(heartbeat(0, n.current, n.config[0], start, [0]), 0)
-    t.frame(probe(0, 1, start), 0)
-    t.frame(fail(2, 0, start), 0)
-    t.frame(fail(2, 0, start + 700), 0)
-    for later, answer in ((2000, 10), (2001, 15)):
-        t.frame(probe(0, 1, start + later), 0)
-        t.frame(request(3, n.current + 1, n.config[0], start + later, [0]), answer)
-    start = t.now(10_000)
-    t.frame(fail(2, 0, start), 0)
-    t.frame(heartbeat(0, n.current, 0, start, [], 2), 0)
-    t.frame(request(3, n.current + 1, 2, start), 14)
-    t.frame(probe(0, 1, start), 0)
-    t.frame(heartbeat(0, n.current, 0, start), 0)
-    t.frame(request(3, n.current + 1, 2, start), 15)
-
-
-def owners(t):
-    """Who owns a slot shows in 17: ties and older epochs move nothing, a newer one does, and the frame's own epoch counts."""
-    n = t.node
-    start = t.now(10_000)
-    e = n.current + 10
-    slots = [5000, 5001, 16383]
-    t.frame(heartbeat(0, e, e, start, slots), 0)
-    t.frame(heartbeat(2, e, e, start, slots), 0)
-    owner_is(t, 5000, e)
-    t.frame(heartbeat(2, e + 9, e + 1, t.now(1), [5001]), 0)
-    t.frame(heartbeat(2, e + 9, e, t.now(), [5000]), 0)
-    owner_is(t, 5000, e)
-    owner_is(t, 5001, e + 1)
-    t.frame(heartbeat(2, e + 9, e + 1, t.now(), [16383]), 0)
-    owner_is(t, 16383, e + 1)
-    t.frame(heartbeat(3, n.current, n.current, t.now(), [16382], 0), 0)
-    owner_is(t, 16382, 0)
-
-
-def owner_is(t, slot, config):
-    """A candidate one epoch below the owner's is refused, one at it gets the vote."""
-    n = t.node
-    t.frame(fail(2, 0, t.now()), 0)
-    start = t.now(2000)
-    if config:
-        t.frame(request(3, n.current + 1, config - 1, start, [slot]), 17)
-    t.frame(request(3, n.current + 1, config, start, [slot]), 10)
+def no_vote(t, otherwise, data):
+    """A request is answered 11, where this node would have answered `otherwise` if it owned a slot."""
+    assert with_a_slot(t.node, data.hex().encode()) == otherwise, (len(t.lines), otherwise)
+    t.frame(data, 11)
 
 
 def ties(t):
@@ -327,7 +267,7 @@ def step(t):
     if r.random() < 0.03:
         return max(0, n.clock - r.choice((1, 5, 2000)))
     marks = [x for x in n.ping if x is not None] + list(n.reported.values())
-    marks += [x for x in n.voted_at + n.failed_at if x is not None]
+    marks += [x for x in n.failed_at if x is not None]
     if marks and r.random() < 0.45:
         aim = near(t, r.choice(marks) + r.choice((1000, 2000)))
         if n.clock <= aim < n.clock + 10_000:
@@ -350,7 +290,7 @@ def some_slots(t):
 
 def an_epoch(t):
     n, r = t.node, t.random
-    return near(t, r.choice((n.current, n.current, n.current, n.last_vote, r.choice(n.config), n.config[1])))
+    return near(t, r.choice((n.current, n.current, n.current, 0, r.choice(n.config), n.config[1])))
 
 
 def random_short(t):
@@ -413,15 +353,6 @@ def at_random(t, count, longs):
             t.raw(spoiled(t, data))
         else:
             t.frame(data)
-        # what it comes to shows in a vote, for a failed master and late enough
-        if long and r.random() < 0.35:
-            if t.node.master(0) and r.random() < 0.7:
-                t.frame(fail(2, 0, t.now()))
-            owned = [s for s in range(16384) if t.node.owner[s] < 5]
-            slot = r.choice(owned) if owned and r.random() < 0.8 else r.randrange(16384)
-            known = t.node.config[t.node.owner[slot]] if t.node.owner[slot] < 5 else 0
-            config = max(0, known - r.choice((0, 1)))
-            t.frame(request(r.choice((3, 4)), max(t.node.current + r.choice((0, 1)), config), config, t.now(r.choice((0, 1999, 2000, 2001, 2500))), [slot]))
 
 
 def the_top(t):
@@ -429,14 +360,13 @@ def the_top(t):
     n = t.node
     t.frame(heartbeat(3, n.current, 0, t.now(), [], 0), 0)
     t.frame(heartbeat(0, n.current, 0, t.now()), 0)
-    t.frame(fail(2, 0, t.now()))
+    t.frame(fail(2, 0, t.now()), 0)
     t.frame(heartbeat(2, TOP - 1, n.config[1], t.now(5000)), 0)
     assert n.current == n.config[1] == TOP
-    t.frame(request(3, TOP, TOP, t.now(), [0, 5000]), 10)
+    no_vote(t, 10, request(3, TOP, TOP, t.now(), [0, 5000]))
     t.frame(heartbeat(2, TOP, TOP, t.now(1)), 0)
     assert n.current == n.config[1] == TOP
-    t.frame(request(3, TOP, TOP, t.now(9000)), 13)
-    t.frame(request(3, TOP - 1, 0, t.now(9000)), 12)
+    no_vote(t, 12, request(3, TOP - 1, 0, t.now(9000)))
     t.frame(ack(2, 3, TOP, t.now()), 31)
     t.frame(tick(2**48 - 1), 0)
     t.frame(tick(2**48), 5)
@@ -444,7 +374,7 @@ def the_top(t):
     t.frame(tick(2**48 - 2), 4)
 
 
-SCENES = (example, pending, old_report, votes, claims_nothing, pongs, owners, ties, order, odd_lines, longest_lines)
+SCENES = (example, no_votes, ties, order, odd_lines, longest_lines)
 
 
 def recorded(seed, lines, longs):
@@ -460,7 +390,7 @@ def recorded(seed, lines, longs):
 def main():
     options = argparse.ArgumentParser()
     options.add_argument("--seed", type=int, default=20261115)
-    options.add_argument("--lines", type=int, default=2000)
+    options.add_argument("--lines", type=int, default=2300)
     options.add_argument("--longs", type=int, default=420)
     options.add_argument("--to", type=Path, default=CRATE)
     o = options.parse_args()
@@ -472,6 +402,7 @@ def main():
     for answer in sorted(k for k in t.seen if isinstance(k, int)):
         kinds = ", ".join(f"{names[k]} {t.seen[answer, k]}" for k in names if k and t.seen[answer, k])
         print(f"answer {answer:2}: {t.seen[answer]:5}   {kinds}")
+    print("with a slot of its own 11 would be: " + ", ".join(f"{answer} {t.behind[answer]} times" for answer in sorted(t.behind)))
 
 
 if __name__ == "__main__":
