@@ -2,12 +2,18 @@
 """A run file for the program `replay`, at random but mostly meaningful.
 
     python3 tests/replay/generate.py SEED COUNT >run.txt
+    python3 tests/replay/generate.py --votes SEED COUNT >run.txt
 
 The reference beside this file plays each line as it is written, so that frames carry what their sender knows, times and
 epochs lie near what the receiver remembers, and acks mostly follow grants. The network between the nodes has faults: frames
 are lost, come twice, come late (with the time at which they come, or with the old one), are malformed, or are forged in a
 real node's name. Some come by a serial bridge, in pieces that are cut anywhere, with mangled bytes and lines that are too
-long. Some lines of the file do not fit. The same seed and count give the same file. The count is about the number of lines.
+long. Some lines of the file do not fit. Masters without slots are there from the start, others lose their last slot or come to
+their first, and the tables differ from node to node: who may vote, and who counts, goes by the table of the node that looks.
+
+With --votes most lines are vote requests, each at one of the limits of the voter that gets it, and few come by the bridge.
+
+The same words give the same file. The count is about the number of lines.
 """
 import random
 import re
@@ -34,8 +40,10 @@ def wide(n):
 
 
 class Tape:
-    def __init__(self, seed):
+    def __init__(self, seed, bridged, spelled):
         self.random = random.Random(seed)
+        self.bridged = bridged  # how many of the frames come by the bridge
+        self.spelled = spelled  # how many of the bitmaps are put in digits
         self.run = Run()
         self.lines = []
         self.granted = []  # voter, candidate, epoch
@@ -87,12 +95,12 @@ class Tape:
         """A frame comes; a bitmap is put as ranges, or now and then all in digits. Or the frame is handed to the bridge."""
         r = self.random
         ranges = stretches(slots or [])
-        if r.random() < 0.15:
+        if r.random() < self.bridged:
             whole = digits.encode() + (b"" if slots is None else bitmap(ranges))
             self.wires[to] = self.wires.get(to, b"") + mangled(r, whole) + b"/"
             return self.hand_over(to)
         if slots is not None:
-            if r.random() < 0.06 or len(ranges) > 60:
+            if r.random() < self.spelled or len(ranges) > 60:
                 digits += bitmap(ranges).decode()
             else:
                 r.shuffle(ranges)
@@ -245,6 +253,79 @@ def request(t, to=None, candidate=None):
     t.frame(to.me, "04" + byte(candidate) + "0000" + wide(epoch) + wide(config) + wide(t.time(to)), slots)
 
 
+def vote(t):
+    """A voter is brought to where one answer is due, and asked."""
+    r = t.random
+    able = [n for n in t.nodes() if n.voting(n.me)]
+    to = r.choice(able) if able and r.random() < 0.95 else t.node()
+    wanted = r.choice((10, 12, 13, 14, 15, 15, 16, 16, 17, 17, 18))
+    if wanted == 13 and to.last_vote < to.current:
+        ask(t, to, 10)
+    if wanted == 16 and not any(x is not None and to.clock - x < 2 * to.T for x in to.voted_at):
+        ask(t, to, 10)
+    ask(t, to, wanted)
+
+
+def ask(t, to, wanted):
+    """A request that fits the voter in all but one thing, which is just short of what a grant needs. For 10 nothing is short."""
+    r = t.random
+    fit = [k for k in to.follows if k != to.me and to.follows[k] != to.me and to.master(to.follows[k])]
+    if not fit:  # one that is a replica says so
+        true = [n.me for n in t.nodes() if n.me in n.follows and n.me != to.me]
+        fit = [r.choice(true) if true else t.other(to)]
+        heartbeat(t, to, fit[0])
+    if wanted == 14:
+        fit = [k for k in range(to.size) if k != to.me and k not in fit] or fit
+    if wanted == 16:
+        fit = [k for k in fit if k in to.follows and to.voted_at[to.follows[k]] is not None] or fit
+    candidate = r.choice(fit)
+    master = to.follows.get(candidate, t.other(to))
+    if master >= to.size or master == to.me:
+        return
+    failed = to.flag[master] == "FAIL"
+    if wanted == 15 and failed:  # a pong that is late enough clears it
+        t.frame(to.me, "06" + byte(master) + "0100" + wide(max(to.clock, to.failed_at[master] + 2 * to.T + r.choice((0, 1, 1)))))
+    elif wanted != 15 and not failed and r.random() < 0.9:
+        t.frame(to.me, "03" + byte(candidate) + byte(master) + "00" + wide(to.clock))
+    time = to.clock + r.choice((0, 0, 1, 50))
+    if to.voted_at[master] is not None and wanted != 13:
+        time = max(to.clock, to.voted_at[master] + 2 * to.T - (wanted == 16))
+    slots = r.choice(([r.randrange(16384)], r.sample(range(16384), 3), range(r.randrange(16384), 16384)[:200]))
+    if wanted == 17 and not any(to.owned(s) and to.config[to.owner[s]] for s in slots):  # a newer owner takes one of them
+        owner = r.choice([k for k in range(to.size) if k != to.me and to.master(k)] or [master])
+        config = max(to.config) + 1
+        t.frame(to.me, "01" + byte(owner) + "0000" + wide(max(config, to.current)) + wide(config) + wide(to.clock), [r.choice(slots)])
+    config = max((to.config[to.owner[s]] for s in slots if to.owned(s)), default=0)
+    config = max(0, config - 1) if wanted == 17 else config
+    epoch = {12: to.current - 1, 13: to.last_vote}.get(wanted, max(to.current, to.last_vote + 1) + r.choice((0, 0, 0, 1)))
+    if wanted in (12, 13):
+        config = min(config, max(epoch, 0))
+    t.frame(to.me, "04" + byte(candidate) + "0000" + wide(max(epoch, config)) + wide(config) + wide(time), [] if wanted == 18 else slots)
+
+
+def silence(t):
+    """A node waits for another longer than T, and hears what the others say of it, lately or 2T ago. Whether that makes it FAIL
+    goes by those that own slots in the table of the node that waits."""
+    r, to = t.random, t.node()
+    subject = t.other(to)
+    if subject == to.me or subject >= to.size:
+        return
+    start = to.clock + r.choice((0, 1, 50))
+    if to.flag[subject] == "FAIL" and r.random() < 0.7:
+        start = max(start, to.failed_at[subject] + 2 * to.T + 1)
+        t.frame(to.me, "06" + byte(subject) + "0100" + wide(start))
+    t.frame(to.me, "06" + byte(subject) + "0000" + wide(start))
+    tell = [k for k in range(to.size) if k not in (to.me, subject) and r.random() < 0.5]
+    r.shuffle(tell)
+    early = tell[: r.randrange(len(tell) + 1)]
+    for k in early:
+        t.frame(to.me, "02" + byte(k) + byte(subject) + byte(r.choice((1, 2))) + wide(start))
+    now = start + r.choice((to.T, to.T + 1, to.T + 1, 2 * to.T, 2 * to.T + 1))
+    t.frame(to.me, "07000000" + wide(now))
+    for k in tell[len(early) :]:
+        t.frame(to.me, "02" + byte(k) + byte(subject) + byte(r.choice((0, 1, 1, 1, 2))) + wide(now))
+
+
 def ack(t, to=None):
     """Mostly of a vote that was granted, lately if there is such a one; now and then made up."""
     r = t.random
@@ -334,6 +415,24 @@ def entries(t):
     return t.put(f"slots {f'{first}-{last}' if last > first else first} of {owner} for {r.choice((node.me, node.me, 'all'))}")
 
 
+def first_or_last(t):
+    """A master loses all of its slots, or comes to its first, in one table or in all: the old code writes it, or a heartbeat says it."""
+    r, node = t.random, t.node()
+    masters = [k for k in range(node.size) if node.master(k)]
+    if not masters:
+        return
+    k = r.choice(masters)
+    where = r.choice((node.me, node.me, "all"))
+    held = stretches(s for s in range(16384) if node.owner[s] == k)
+    heir = r.choice((r.choice(masters), 65535)) if held else k
+    slots = held or [range(s, s + 1) for s in [r.randrange(16384)]]
+    if heir < node.size and heir != node.me and (len(slots) > 4 or r.random() < 0.4):
+        config = max(node.config) + 1
+        return t.frame(node.me, "01" + byte(heir) + "0000" + wide(max(config, node.current)) + wide(config) + wide(t.time(node)), [s for x in slots for s in x])
+    for x in slots[:8]:
+        t.put(f"slots {x[0]}-{x[-1]} of {heir} for {where}")
+
+
 def bridge(t):
     """More of what a node's bridge has. Before it, now and then, a line about as long as may be, or far longer."""
     r, node = t.random, t.node()
@@ -411,7 +510,7 @@ def failover(t):
     for n in runners:
         if n.election and r.random() < 0.35:
             comes_back(t, n, master)
-        for _ in range(r.randrange(1, 3 + len(voters))):
+        for _ in range(r.randrange(2, 6 + len(voters))):
             if n.election:
                 ack(t, n)
     for n in runners:
@@ -434,15 +533,16 @@ def the_top(t):
 # ---- a whole file
 
 
-def begin(t):
+def begin(t, sizes):
+    """The roster and its first slots. The masters are some of the nodes, among them some without slots."""
     r = t.random
     if r.random() < 0.3:
         t.put(r.choice(("open 0 0", "slots 0-9 of 0 for all", "replica 1 of 0", "key 0 foo absent", "roster 0", "roster 17", "frame 0 zz")))
-    size = r.choice((1, 2, 3, 4, 5, 5, 5, 6, 6, 7, 8, 9, 12, 16))
+    size = r.choice(sizes)
     t.put(f"roster {size}")
     while t.run.nodes is None:
         t.put(f"roster {size}")
-    masters = list(range(r.randrange(1, size + 1)))
+    masters = list(range(r.randrange(1, size + 1) if size < 5 or r.random() < 0.3 else r.randrange(2, size - 1)))
     if r.random() < 0.4:
         r.shuffle(masters)
     for k in range(size):
@@ -452,22 +552,25 @@ def begin(t):
             t.put(f"timeout {k} {r.choice((100, 300, 500, 1500, 3000, 600000))}")
         if r.random() < 0.08:
             bad(t)
-    held = sorted(masters)
+    held = sorted(k for k in masters if r.random() < 0.75) or masters[:1]  # the others are masters without slots
     for i, k in enumerate(held):
         whose = "all" if r.random() < 0.6 else k
         t.put(f"slots {16384 * i // len(held)}-{16384 * (i + 1) // len(held) - 1} of {k} for {whose}")
 
 
-def generate(seed, count):
-    t = Tape(seed)
-    begin(t)
+def generate(seed, count, votes):
+    t = Tape(seed, *((0.01, 0.01) if votes else (0.15, 0.06)))
+    begin(t, (5, 6, 6, 7, 8, 9, 12) if votes else (1, 2, 3, 4, 5, 5, 5, 6, 6, 7, 8, 9, 12, 16))
     plain = [heartbeat] * 14 + [report] * 8 + [fail] * 3 + [probe] * 14 + [tick] * 14 + [request] * 8 + [ack] * 10 + [forged] * 3
-    plain += [opening] * 6 + [mark] * 8 + [key] * 12 + [entries] * 4 + [bad] * 6 + [failover] * 3
-    plain += [bridge] * 3 + [long_line]
+    plain += [opening] * 6 + [mark] * 8 + [key] * 12 + [entries] * 4 + [bad] * 6 + [failover] * 6
+    plain += [bridge] * 3 + [long_line] + [silence] * 3 + [first_or_last] * 2 + [vote] * 3
+    if votes:
+        plain = [vote] * 60 + [heartbeat] * 4 + [forged] * 2 + [silence] * 2 + [first_or_last] * 4 + [entries] * 2 + [tick] * 2
+        plain += [opening] * 2 + [ack] * 3 + [failover] + [bad]
     while len(t.lines) < count:
         t.random.choice(plain)(t)
         t.deliver_late()
-        if t.random.random() < 0.004:
+        if not votes and t.random.random() < 0.004:
             many_marks(t)
     if t.random.random() < 0.3:
         the_top(t)
@@ -475,4 +578,6 @@ def generate(seed, count):
 
 
 if __name__ == "__main__":
-    sys.stdout.buffer.write(generate(int(sys.argv[1]), int(sys.argv[2])))
+    words = sys.argv[1:]
+    votes = words[:1] == ["--votes"]
+    sys.stdout.buffer.write(generate(*map(int, words[votes:]), votes))
