@@ -140,7 +140,7 @@ fn put_text(out: &mut [u8], at: usize, texts: &[u8], note: Note) -> usize {
 }
 
 // All texts: the answers' first, then the others. Each goes up to a ~.
-const TEXTS: [u8; 1574] = *b"done~\
+const TEXTS: [u8; 1581] = *b"done~\
     a table has the wrong length~\
     not a frame~\
     no such node~\
