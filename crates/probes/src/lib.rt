@@ -1,5 +1,5 @@
-// Pings, pongs and time: document 01, "Probe, tick", and document 02, [3]. Each function gets the node as it is past the refusals, with the
-// frame's time as its clock. Subjects, lent tables and the node may be anything.
+// Pings, pongs and time: document 01, "Probe, tick", and document 02, [3]. Each function gets the node as it is past the
+// refusals, with the frame's time as its clock. Subjects, lent tables and the node may be anything.
 ghost use mathlib.Core.Path.{_≡_};
 ghost use mathlib.Core.Bool.{not};
 ghost use mathlib.Core.List.{[], _∷_};

@@ -1,5 +1,5 @@
-// Reports and fail frames: document 01, "Report, fail", and document 02, [3]. Each function gets the node as it is past the refusals, with the
-// frame's time as its clock. Subjects, lent tables and the node may be anything.
+// Reports and fail frames: document 01, "Report, fail", and document 02, [3]. Each function gets the node as it is past the
+// refusals, with the frame's time as its clock. Subjects, lent tables and the node may be anything.
 ghost use mathlib.Core.Path.{_≡_};
 ghost use lib.ListN.{set};
 ghost use Rattle.state.specs.Node.{votingMasters};
@@ -30,8 +30,8 @@ fn store(reports: &mut [u64], reporter: u8, subject: u8, t: u64)
     }
 }
 
-// The look at the subject. The voting masters are found only where it is PFAIL: their table is read once, and their roles from
-// the node that is changed, since a function that is handed the node to index it copies it.
+// The look at the subject. The voting masters are found only where it is PFAIL: the table is read once, and the roles are taken
+// from the node that is changed, since a function that is handed the node to index it copies it.
 fn look_at(node: Node, slots: &[u16], reports: &[u64], subject: u8) -> Node
     ensures { λ r. ⌜ r ≡ lookedAt (votingMasters node (now (slots .entry))) (now (reports .entry)) subject node ⌝ }
 {
