@@ -1,24 +1,21 @@
 -- A set gathered in a loop: the numbers passed so far that pass a test, and at the end all that pass.
 use mathlib.Core.Path.{_≡_, refl, sym, ap, ap₂, _∙_}
-use mathlib.Core.Bool.{Bool, true, false, _||_, cond, or-false}
+use mathlib.Core.Bool.{Bool, true, false, _||_, cond, or-false, or-assoc}
 use mathlib.Core.List.{List, [], _∷_}
-use Prim.Native.Nat.{ℕ, suc, _+_, _≤_, _<_}
-use native.Mathlib.Numerals.{add-one}
+use Prim.Native.Nat.{ℕ, _+_, _≤_, _<_}
 use native.Mathlib.Decide.{decLt, ℕ-discrete}
 use native.Mathlib.Omega.{arith}
 use lib.Bits.{and-comm}
 use lib.Dec.{eqb, ltb}
-use lib.ListN.{length, drop, getD, drop-of-length-le}
+use lib.ListN.{length, drop, getD}
 use lib.Pow.{pow-pos}
-use lib.Seq.{drop-cons}
 use borrow.Author.Tests.{lt-ltb, le-ltb, eq-eqb, ne-eqb}
 use Rattle.tables.specs.Sizes.{nodeRoom}
 use Rattle.tables.specs.Checks.{allOf}
-use Rattle.tables.specs.Lists.{firstFrom, isFound, occurs}
-use Rattle.tables.specs.declared.Found.{Found}
-use Rattle.tables.specs.declared.Found.the-variants.{At}
+use Rattle.tables.specs.Lists.{occurs}
 use Rattle.tables.specs.Sets as sets
 use Rattle.tables.proofs.Checks.{never}
+use Rattle.tables.proofs.Walks.{occurs-turn, occurs-ended}
 use Rattle.tables.proofs.Words.{within-parts, members-within, both-fits, add-out, has-out}
 use Rattle.nodesets.specs.NodeSets.{words, setOf, none, has, added, both, gathered, among}
 use Rattle.nodesets.specs.Members.{Fits}
@@ -54,53 +51,38 @@ both-gathered p q =
 -- those passed in a table are in the set, and of the others it is still to be asked
 pub record Passed (entries : List ℕ) (i : ℕ) (s : NodeSet) : Type 0 where
   pub fits : Fits s
-  pub members : (k : ℕ) → k < nodeRoom → occurs entries k ≡ (has s k || isFound (firstFrom (λ place entry. eqb entry k) i (drop i entries)))
+  pub members : (k : ℕ) → k < nodeRoom → occurs entries k ≡ (has s k || occurs (drop i entries) k)
 
 module _ (entries : List ℕ) where
   pub passed-none : Passed entries 0 none
   passed-none = record { fits = (pow-pos 64, tt); members = λ k l. rw (none-in k) }
 
   pub passed-more : (i : ℕ) (s : NodeSet) → i < length entries → Passed entries i s → Passed entries (i + 1) (added s (getD entries i 0))
-  unfolding firstFrom
   passed-more i s h g = record {
     fits = added-fits s v (g .fits);
-    members = λ k l. g .members k l ∙ ap (λ (b : Bool). has s k || b) (here k) ∙ by k l (decLt v nodeRoom);
+    members = λ k l.
+        g .members k l
+        ∙ ap (λ (b : Bool). has s k || b) (occurs-turn k entries i h)
+        ∙ sym (or-assoc (has s k) (eqb v k) (occurs (drop (i + 1) entries) k))
+        ∙ ap (λ (b : Bool). b || occurs (drop (i + 1) entries) k) (by k l (decLt v nodeRoom));
   }
     where
       v : ℕ
       v = getD entries i 0
 
-      rest : ℕ → Bool
-      rest k = isFound (firstFrom (λ place entry. eqb entry k) (i + 1) (drop (i + 1) entries))
+      turned : (k : ℕ) → Dec (v ≡ k) → eqb v k ≡ eqb k v
+      turned k (yes e) = eq-eqb v k e ∙ sym (eq-eqb k v (sym e))
+      turned k (no f) = ne-eqb v k f ∙ sym (ne-eqb k v (λ e. f (sym e)))
 
-      found : (t : Bool) (f : Found) → isFound (cond t (At i) f) ≡ (t || isFound f)
-      found true f = refl
-      found false f = refl
-
-      here : (k : ℕ) → isFound (firstFrom (λ place entry. eqb entry k) i (drop i entries)) ≡ (eqb v k || rest k)
-      here k = rw (add-one i, drop-cons entries i 0 h) (found (eqb v k) (firstFrom (λ place entry. eqb entry k) (suc i) (drop (suc i) entries)))
-
-      turned : (k : ℕ) → eqb v k ≡ eqb k v
-      turned k = flip (ℕ-discrete v k)
-        where
-          flip : Dec (v ≡ k) → eqb v k ≡ eqb k v
-          flip (yes e) = eq-eqb v k e ∙ sym (eq-eqb k v (sym e))
-          flip (no f) = ne-eqb v k f ∙ sym (ne-eqb k v (λ e. f (sym e)))
-
-      grouped : (a b r : Bool) → (a || (b || r)) ≡ ((a || b) || r)
-      grouped true b r = refl
-      grouped false b r = refl
-
-      by : (k : ℕ) → k < nodeRoom → Dec (v < nodeRoom) → (has s k || (eqb v k || rest k)) ≡ (has (added s v) k || rest k)
-      by k l (yes m) = grouped (has s k) (eqb v k) (rest k) ∙ ap (λ (b : Bool). b || rest k) (ap (λ (b : Bool). has s k || b) (turned k) ∙ sym (in-added s v k m))
-      by k l (no f) = rw (ne-eqb v k (λ e. f (omega arith))) (ap (λ (x : NodeSet). has x k || rest k) (sym (ap setOf (add-out (s .word) v (omega arith)))))
+      by : (k : ℕ) → k < nodeRoom → Dec (v < nodeRoom) → (has s k || eqb v k) ≡ has (added s v) k
+      by k l (yes m) = ap (λ (b : Bool). has s k || b) (turned k (ℕ-discrete v k)) ∙ sym (in-added s v k m)
+      by k l (no f) = rw (ne-eqb v k (λ e. f (omega arith))) (or-false (has s k) ∙ ap (λ (x : NodeSet). has x k) (sym (ap setOf (add-out (s .word) v (omega arith)))))
 
   pub passed-all : (i : ℕ) (s : NodeSet) → length entries ≤ i → Passed entries i s → s ≡ among entries
-  unfolding firstFrom
   passed-all i s h g = same-members s (among entries) (g .fits) (gathered-fits (occurs entries)) (λ k. by k (decLt k nodeRoom) ∙ sym (in-gathered (occurs entries) k))
     where
       by : (k : ℕ) → Dec (k < nodeRoom) → has s k ≡ cond (ltb k nodeRoom) (occurs entries k) false
-      by k (yes l) = rw (lt-ltb k nodeRoom l, g .members k l, drop-of-length-le entries h) (sym (or-false (has s k)))
+      by k (yes l) = rw (lt-ltb k nodeRoom l, g .members k l, occurs-ended k entries i h) (sym (or-false (has s k)))
       by k (no f) = rw (le-ltb k nodeRoom (omega arith)) (has-out (s .word) k (omega arith))
 
 -- ---- a loop over numbers

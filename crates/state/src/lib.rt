@@ -200,12 +200,5 @@ pub fn peer_of(movement: Move) -> u8
 pub fn owns(slots: &[u16], k: u16) -> bool
     ensures { λ r. ⌜ r ≡ owns (now (slots .entry)) k ⌝ }
 {
-    let mut s: usize = 0;
-    while s < slots.len() {
-        if slots[s] == k {
-            return true;
-        }
-        s += 1;
-    }
-    false
+    tables::occurs(slots, k)
 }

@@ -1,14 +1,14 @@
 -- Laws of loops over a table from the front: what is done is its front, what is left is made of the rest.
 use mathlib.Core.Path.{_≡_, refl, sym, ap, _∙_}
-use mathlib.Core.Bool.{Bool, true, false, cond}
+use mathlib.Core.Bool.{Bool, true, false, _||_, cond, or-assoc}
 use mathlib.Core.List.{List, [], _∷_, _++_, append-nil}
-use Prim.Native.Nat.{ℕ, zero, suc, _+_, _≤_, _<_}
+use Prim.Native.Nat.{ℕ, zero, suc, _+_, _-_, _≤_, _<_}
 use native.Mathlib.Nat.{add-zero, add-suc, suc-add, le-of-suc-le-suc, not-suc-le-zero}
 use native.Mathlib.Numerals.{add-one}
 use native.Mathlib.Omega.{arith}
 use lib.Dec.{eqb}
-use lib.ListN.{length, take, drop, getD, set, drop-of-length-le}
-use lib.Seq.{drop-cons, take-suc, take-suc-set, drop-set-lt, take-all, append-snoc}
+use lib.ListN.{length, take, drop, getD, set, length-drop, drop-of-length-le, take-append-drop}
+use lib.Seq.{drop-cons, drop-drop, take-suc, take-suc-set, drop-set-lt, take-all, append-snoc}
 use borrow.Author.Tests.{eqb-true, eq-eqb}
 use Rattle.tables.specs.Lists.{mapFrom, countFrom, firstFrom, isFound, occurs}
 use Rattle.tables.specs.declared.Found.{Found}
@@ -160,6 +160,60 @@ none-found p i [] f = refl
 none-found p i (x ∷ xs) f =
     let z : p i x ≡ false = rw (add-zero i) at (f 0 (omega arith)) in
     rw z (none-found p (suc i) xs (λ k h. rw (suc-add i k, ← add-suc i k) (f (suc k) (omega arith))))
+
+-- ---- a number that occurs in a table: entry by entry, and part by part
+
+module _ (v : ℕ) where
+  found-or : (t : Bool) (i : ℕ) (f : Found) → isFound (cond t (At i) f) ≡ (t || isFound f)
+  found-or true i f = refl
+  found-or false i f = refl
+
+  -- from whatever place the entries are numbered
+  from-any : (i j : ℕ) (xs : List ℕ) → isFound (firstFrom (λ place entry. eqb entry v) i xs) ≡ isFound (firstFrom (λ place entry. eqb entry v) j xs)
+  unfolding firstFrom
+  from-any i j [] = refl
+  from-any i j (x ∷ xs) = found-or (eqb x v) i _ ∙ ap (λ (b : Bool). eqb x v || b) (from-any (suc i) (suc j) xs) ∙ sym (found-or (eqb x v) j _)
+
+  pub occurs-cons : (x : ℕ) (xs : List ℕ) → occurs (x ∷ xs) v ≡ (eqb x v || occurs xs v)
+  unfolding firstFrom
+  occurs-cons x xs = found-or (eqb x v) 0 _ ∙ ap (λ (b : Bool). eqb x v || b) (from-any 1 0 xs)
+
+  pub occurs-append : (xs ys : List ℕ) → occurs (xs ++ ys) v ≡ (occurs xs v || occurs ys v)
+  unfolding firstFrom
+  occurs-append [] ys = refl
+  occurs-append (x ∷ xs) ys =
+      occurs-cons x (xs ++ ys)
+      ∙ ap (λ (b : Bool). eqb x v || b) (occurs-append xs ys)
+      ∙ sym (or-assoc (eqb x v) (occurs xs v) (occurs ys v))
+      ∙ ap (λ (b : Bool). b || occurs ys v) (sym (occurs-cons x xs))
+
+  module _ (xs : List ℕ) (i : ℕ) where
+    -- in the rest from place i on: there, or in the rest behind it
+    pub occurs-turn : i < length xs → occurs (drop i xs) v ≡ (eqb (getD xs i 0) v || occurs (drop (i + 1) xs) v)
+    occurs-turn h = rw (add-one i, drop-cons xs i 0 h) (occurs-cons (getD xs i 0) (drop (suc i) xs))
+
+    -- in the part from place i up to place j, or in the rest behind that
+    module _ (j : ℕ) (l : i ≤ j) where
+      in-part : occurs (drop i xs) v ≡ (occurs (take (j - i) (drop i xs)) v || occurs (drop j xs) v)
+      in-part =
+          let e : i + (j - i) ≡ j = omega arith in
+          ap (λ (ys : List ℕ). occurs ys v) (sym (take-append-drop (j - i) (drop i xs)))
+          ∙ occurs-append (take (j - i) (drop i xs)) (drop (j - i) (drop i xs))
+          ∙ ap (λ (ys : List ℕ). occurs (take (j - i) (drop i xs)) v || occurs ys v) (drop-drop (j - i) i xs ∙ ap (λ (k : ℕ). drop k xs) e)
+
+      pub occurs-there : occurs (take (j - i) (drop i xs)) v ≡ true → occurs (drop i xs) v ≡ true
+      occurs-there e = in-part ∙ ap (λ (b : Bool). b || occurs (drop j xs) v) e
+
+      pub occurs-behind : occurs (take (j - i) (drop i xs)) v ≡ false → occurs (drop i xs) v ≡ occurs (drop j xs) v
+      occurs-behind e = in-part ∙ ap (λ (b : Bool). b || occurs (drop j xs) v) e
+
+    -- in the part that goes to the end
+    pub occurs-onwards : occurs (take (length xs - i) (drop i xs)) v ≡ occurs (drop i xs) v
+    occurs-onwards = ap (λ (ys : List ℕ). occurs ys v) (take-all (length xs - i) (drop i xs) (rw (length-drop i xs) (omega arith)))
+
+    pub occurs-ended : length xs ≤ i → occurs (drop i xs) v ≡ false
+    unfolding firstFrom
+    occurs-ended h = rw (drop-of-length-le xs h)
 
 -- ---- a number occurs in a table exactly when some place has it
 

@@ -1,6 +1,7 @@
-// Sizes and bounds that every chapter shares, and the search for a byte. The definitions and laws stand in specs/ and proofs/.
+// Sizes and bounds that every chapter shares, and the searches for a byte and for a number. The definitions and laws stand in
+// specs/ and proofs/.
 ghost use mathlib.Core.Path.{_≡_};
-ghost use Rattle.tables.specs.Lists.{firstByte};
+ghost use Rattle.tables.specs.Lists.{firstByte, occurs};
 
 // Slots, and so entries of a slot table.
 pub const SLOTS: u16 = 16384;
@@ -50,4 +51,35 @@ pub fn first_byte(bytes: &[u8], byte: u8) -> Found
         i += 1;
     }
     Found::Nothing
+}
+
+// How many entries of a table are searched before it is asked whether to go on: 64 bytes of it.
+const STRETCH: usize = 32;
+
+// Whether a number stands in a stretch of a table. There is no early end, so that the processor compares several entries at once.
+fn stands_in(stretch: &[u16], number: u16) -> bool
+    ensures { λ r. ⌜ r ≡ occurs (now (stretch .entry)) number ⌝ }
+{
+    let mut found = false;
+    let mut i: usize = 0;
+    while i < stretch.len() {
+        found = found | (stretch[i] == number);
+        i += 1;
+    }
+    found
+}
+
+// Whether a number stands in a table. The search ends with the first stretch that has it.
+pub fn occurs(entries: &[u16], number: u16) -> bool
+    ensures { λ r. ⌜ r ≡ occurs (now (entries .entry)) number ⌝ }
+{
+    let mut from: usize = 0;
+    while STRETCH <= entries.len() - from {
+        let to = from + STRETCH;
+        if stands_in(&entries[from..to], number) {
+            return true;
+        }
+        from = to;
+    }
+    stands_in(&entries[from..], number)
 }
