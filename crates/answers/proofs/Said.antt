@@ -1,9 +1,11 @@
 -- An answer is fixed by its number and its values: it can be read off them.
 use mathlib.Core.Path.{_≡_, refl, sym, ap, _∙_}
+use mathlib.Core.Bool.{cond}
 use mathlib.Core.List.{List, [], _∷_}
 use Prim.Native.Nat.{ℕ}
+use lib.Dec.{eqb}
 use lib.ListN.{getD}
-use Rattle.answers.specs.Answers.{Values, no-values, counts, at-slot, passed, Said, said, SaidSettles}
+use Rattle.answers.specs.Answers.{Values, no-values, counts, at-slot, passed, ranges, Said, said, SaidSettles}
 use Rattle.answers.specs.declared.Answer.{Answer}
 use Rattle.answers.specs.declared.Answer.the-variants as answer
 
@@ -54,6 +56,7 @@ answerOf no-values k = getD plainAnswers k answer.Done
 answerOf (counts bound rebound stale) k = answer.Heard (record { bound = bound; rebound = rebound; stale = stale })
 answerOf (at-slot s) k = answer.Outdated s
 answerOf (passed count) k = answer.Won count
+answerOf (ranges count) k = cond (eqb k 0) (answer.Listed count) (answer.ListShort count)
 
 abbrev read : Said → Answer
 read s = answerOf (s .values) (s .number)
@@ -94,6 +97,8 @@ read-said answer.OtherEpoch = refl
 read-said answer.NoVoter = refl
 read-said answer.AckLate = refl
 read-said answer.AckRepeated = refl
+read-said (answer.Listed count) = refl
+read-said (answer.ListShort count) = refl
 
 pub said-settles : SaidSettles
 said-settles a b e = sym (read-said a) ∙ ap read e ∙ read-said b

@@ -39,15 +39,19 @@ use Rattle.answers.specs.declared.Answer.the-variants.{
   NoVoter,
   AckLate,
   AckRepeated,
+  Listed,
+  ListShort,
 }
 
 -- beside the 0 of a heartbeat: how many slots were newly bound, how many rebound, and the lowest slot, if any, at which the
--- sender is stale; beside 17 the lowest slot that the vote is refused for; beside 30 how many slots passed to this node
+-- sender is stale; beside 17 the lowest slot that the vote is refused for; beside 30 how many slots passed to this node; beside
+-- the 0 of a listing how many ranges there are, beside 40 how many the list has no room for
 pub data Values : Type 0 where
   no-values : Values
   counts : (bound rebound : ℕ) (stale : Found) → Values
   at-slot : ℕ → Values
   passed : ℕ → Values
+  ranges : ℕ → Values
 
 pub record Said : Type 0 where
   pub number : ℕ
@@ -93,6 +97,8 @@ said OtherEpoch = plain 33
 said NoVoter = plain 34
 said AckLate = plain 35
 said AckRepeated = plain 36
+said (Listed count) = record { number = 0; values = ranges count }
+said (ListShort count) = record { number = 40; values = ranges count }
 
 abbrev pub number : Answer → ℕ
 number a = said a .number

@@ -51,6 +51,10 @@ pub enum Answer {
     NoVoter,
     AckLate,
     AckRepeated,
+    // The ranges of a slot table were listed, so many.
+    Listed(usize),
+    // The list lent is too short for so many ranges.
+    ListShort(usize),
 }
 
 // What checks in order come to.
@@ -99,5 +103,7 @@ pub fn number(answer: Answer) -> u8
         Answer::NoVoter => 34,
         Answer::AckLate => 35,
         Answer::AckRepeated => 36,
+        Answer::Listed(_) => 0,
+        Answer::ListShort(_) => 40,
     }
 }
