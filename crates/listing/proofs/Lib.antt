@@ -1,2 +1,4 @@
 pub mod Stretches
 pub mod Writing
+pub mod Fits
+pub mod Laws
