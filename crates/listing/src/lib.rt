@@ -97,7 +97,8 @@ pub fn list(slots: &[u16], size: u16, list: &mut [u16]) -> Answer
         return Answer::WrongLength;
     }
     let count = count(slots, size);
-    if list.len() < 3 * count {
+    let numbers = 3 * count;
+    if list.len() < numbers {
         return Answer::ListShort(count);
     }
     write(slots, size, list);

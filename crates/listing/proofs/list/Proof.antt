@@ -20,8 +20,8 @@ returns c = rw (ne-eqb _ _ (c .if1 .taken))
 count-requires : tie.Need-count-requires
 count-requires c κs = search needs
 
-mul-if2 : tie.Need-mul-if2
-mul-if2 c =
+mul-numbers : tie.Need-mul-numbers
+mul-numbers c =
     let a = c .before .before .before .before .args in
     omega (arith, c .count .ensures, few (a .size) 0 (a .slots .now), c .before .if1 .left)
 
@@ -48,7 +48,7 @@ list-spec =
     cast-if1
     returns
     count-requires
-    mul-if2
+    mul-numbers
     returns-2
     write-requires
     same-length
