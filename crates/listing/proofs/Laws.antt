@@ -13,8 +13,9 @@ use Rattle.tables.specs.Sizes.{slotCount}
 use Rattle.answers.specs.Answers.{number}
 use Rattle.answers.specs.declared.Answer.the-variants.{Listed}
 use Rattle.listing.specs.Listing.{Range, range, rangesFrom, listing, flat, laid, Outcome, listed, told}
-use Rattle.listing.specs.Laws.{StandsIn, StandsInOne, ListingLaws, ListLaws, ListedLaws}
+use Rattle.listing.specs.Laws.{StandsIn, StandsInOne, ListsRanges, ListingLaws, ListLaws, ListedLaws}
 use Rattle.listing.proofs.Stretches.{few}
+use Rattle.listing.proofs.Only.{only, lists-fit}
 use Rattle.listing.proofs.Fits.{Each, each, ascending, Some, some, fits, entryAt}
 
 module _ (size : ℕ) (slots : List ℕ) where
@@ -28,7 +29,7 @@ module _ (size : ℕ) (slots : List ℕ) where
   in-order i j h k = ascending (entryAt size slots) size (length slots) 0 (listing size slots) (fits size slots) i j h k
 
   -- a slot that stands in two ranges stands in one
-  one : (s i j : ℕ) → StandsIn size slots s i → StandsIn size slots s j → i ≡ j
+  one : (s i j : ℕ) → StandsIn size slots (listing size slots) s i → StandsIn size slots (listing size slots) s j → i ≡ j
   one s i j a b = go (ltb i j) refl (ltb j i) refl
     where
       go : (t : Bool) → ltb i j ≡ t → (u : Bool) → ltb j i ≡ u → i ≡ j
@@ -36,16 +37,16 @@ module _ (size : ℕ) (slots : List ℕ) where
       go false p true q = absurd (omega (arith, b .2, a .1, in-order j i (ltb-true j i q) (a .0)))
       go false p false q = omega (arith, ltb-false i j p, ltb-false j i q)
 
-  whose : (s i : ℕ) → StandsIn size slots s i → getD slots s 0 ≡ at i .owner
+  whose : (s i : ℕ) → StandsIn size slots (listing size slots) s i → getD slots s 0 ≡ at i .owner
   whose s i a = range-at i (a .0) .whole s (a .1) (a .2)
 
-  stands-in-one : (s : ℕ) → s < length slots → getD slots s 0 < size → StandsInOne size slots s
+  stands-in-one : (s : ℕ) → s < length slots → getD slots s 0 < size → StandsInOne size slots (listing size slots) s
   stands-in-one s h o =
       let x = some (entryAt size slots) size (length slots) 0 (listing size slots) (fits size slots) s (omega arith) h o in
       record { place = x .place; stands = x .stands; owner's = sym (whose s (x .place) (x .stands)); alone = λ i a. one s i (x .place) a (x .stands) }
 
   -- the next slot of the same owner stands in the same range
-  next : (s i : ℕ) → suc s < length slots → getD slots s 0 ≡ getD slots (suc s) 0 → StandsIn size slots s i → StandsIn size slots (suc s) i
+  next : (s i : ℕ) → suc s < length slots → getD slots s 0 ≡ getD slots (suc s) 0 → StandsIn size slots (listing size slots) s i → StandsIn size slots (listing size slots) (suc s) i
   next s i h e a = (a .0, omega (arith, a .1), go (ltb s (at i .last)) refl)
     where
       go : (t : Bool) → ltb s (at i .last) ≡ t → suc s ≤ at i .last
@@ -54,14 +55,20 @@ module _ (size : ℕ) (slots : List ℕ) where
           let z : at i .last ≡ s = omega (arith, a .2, ltb-false s (at i .last) q) in
           absurd (range-at i (a .0) .apart (omega (arith, z, h)) (ap (λ (k : ℕ). getD slots (suc k) 0) z ∙ sym e ∙ whose s i a))
 
-  pub listing-laws : ListingLaws size slots
-  listing-laws = record {
+  lists-ranges : ListsRanges size slots (listing size slots)
+  lists-ranges = record {
     owned = stands-in-one;
     unowned = λ s h o i a. omega (arith, o, whose s i a, range-at i (a .0) .inRoster);
     neighbours = λ s h e i j a b. one (suc s) i j (next s i h e a) b;
     ascending = in-order;
     filled = λ i h. range-at i h .filled;
     inside = λ i h. range-at i h .high;
+  }
+
+  pub listing-laws : ListingLaws size slots
+  listing-laws = record {
+    listing's = lists-ranges;
+    only = λ rs l. only size slots rs (listing size slots) (lists-fit size slots rs l) (fits size slots);
     few = few size 0 slots;
   }
 
