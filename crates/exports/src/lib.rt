@@ -2,7 +2,7 @@
 ghost use mathlib.Core.Path.{_≡_};
 ghost use Rattle.slots.specs.Key.{keySlot};
 ghost use Rattle.ownership.specs.Claim.{claimant, claim};
-ghost use Rattle.listing.specs.Listing.{listed};
+ghost use Rattle.listing.specs.Listing.{lists};
 ghost use Rattle.state.specs.Outcomes.{Stepped};
 ghost use Rattle.cases.specs.Cases.{casesNode};
 ghost use Rattle.rosters.specs.Rosters.{roster};
@@ -45,7 +45,7 @@ pub extern "C" fn ukweribaso_claim(
 // The ranges of a slot table, written to the list: document 02, [1]. It answers 0, 1 or 40.
 #[no_mangle]
 pub extern "C" fn ukweribaso_ranges(slots: &[u16], size: u16, list: &mut [u16]) -> u8
-    ensures { λ r. ⌜ record { number = r; list = now (list .exit) } ≡ numbered (listed size (now (slots .entry)) (now (list .entry))) ⌝ }
+    ensures { λ r. ⌜ record { number = r; list = now (list .exit) } ≡ numbered (lists size (now (slots .entry)) (now (list .entry))) ⌝ }
 {
     answers::number(listing::list(slots, size, list))
 }

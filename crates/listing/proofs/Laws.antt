@@ -12,8 +12,8 @@ use borrow.Author.Tests.{eqb-true, eqb-false, ltb-true, ltb-false, eq-eqb, lt-lt
 use Rattle.tables.specs.Sizes.{slotCount}
 use Rattle.answers.specs.Answers.{number}
 use Rattle.answers.specs.declared.Answer.the-variants.{Listed}
-use Rattle.listing.specs.Listing.{Range, range, rangesFrom, listing, flat, laid, Outcome, listed, told}
-use Rattle.listing.specs.Laws.{StandsIn, StandsInOne, ListsRanges, ListingLaws, ListLaws, ListedLaws}
+use Rattle.listing.specs.Listing.{Range, range, rangesFrom, listing, flat, laid, ListAfter, lists, entered}
+use Rattle.listing.specs.Laws.{StandsIn, StandsInOne, ListsRanges, ListingLaws, ListLaws, AnswerLaws}
 use Rattle.listing.proofs.Stretches.{few}
 use Rattle.listing.proofs.Only.{only, lists-fit}
 use Rattle.listing.proofs.Fits.{Each, each, ascending, Some, some, fits, entryAt}
@@ -110,14 +110,14 @@ module _ (size : ℕ) (slots list : List ℕ) where
 
   -- past both checks the ranges are laid
   module _ (l : length slots ≡ slotCount) (h : 3 * length ranges ≤ length list) where
-    taken : listed size slots list ≡ record { answer = Listed (length ranges); list = laid ranges list }
-    unfolding listed told
+    taken : lists size slots list ≡ record { answer = Listed (length ranges); list = laid ranges list }
+    unfolding lists entered
     taken = rw (eq-eqb (length slots) slotCount l, le-ltb (length list) (3 * length ranges) h)
 
-    list-after : listed size slots list .list ≡ laid ranges list
-    list-after = ap (λ (o : Outcome). o .list) taken
+    list-after : lists size slots list .list ≡ laid ranges list
+    list-after = ap (λ (o : ListAfter). o .list) taken
 
-    numbers-after : (i : ℕ) → i < length ranges → Numbers (listed size slots list .list) (3 * i) (getD ranges i (range 0 0 0))
+    numbers-after : (i : ℕ) → i < length ranges → Numbers (lists size slots list .list) (3 * i) (getD ranges i (range 0 0 0))
     numbers-after i k = rw list-after (numbers ranges (drop (3 * length ranges) list) i k)
 
     written : ListLaws size slots list
@@ -131,11 +131,11 @@ module _ (size : ℕ) (slots list : List ℕ) where
 
   -- what a listing comes to: a refusal, or all is well
   data Came : Type 0 where
-    refused : (number (listed size slots list .answer) ≡ 0 → ⊥) → listed size slots list .list ≡ list → Came
+    refused : (number (lists size slots list .answer) ≡ 0 → ⊥) → lists size slots list .list ≡ list → Came
     done : length slots ≡ slotCount → 3 * length ranges ≤ length list → Came
 
   came : Came
-  unfolding listed told
+  unfolding lists entered
   came = go (eqb (length slots) slotCount) refl (ltb (length list) (3 * length ranges)) refl
     where
       go : (t : Bool) → eqb (length slots) slotCount ≡ t → (u : Bool) → ltb (length list) (3 * length ranges) ≡ u → Came
@@ -143,17 +143,17 @@ module _ (size : ℕ) (slots list : List ℕ) where
       go true p true q = refused (rw (p, q) (λ e. omega arith)) (rw (p, q))
       go true p false q = done (eqb-true (length slots) slotCount p) (ltb-false (length list) (3 * length ranges) q)
 
-  pub listed-laws : ListedLaws size slots list
-  listed-laws = record {
+  pub answer-laws : AnswerLaws size slots list
+  answer-laws = record {
     done = done-so came;
     refused = refused-so came;
-    enough = λ l k. ap (λ (o : Outcome). o .answer) (taken l (omega (arith, few size 0 slots, l, k)));
+    enough = λ l k. ap (λ (o : ListAfter). o .answer) (taken l (omega (arith, few size 0 slots, l, k)));
   }
     where
-      done-so : Came → number (listed size slots list .answer) ≡ 0 → (listed size slots list .answer ≡ Listed (length (listing size slots))) × ListLaws size slots list
+      done-so : Came → number (lists size slots list .answer) ≡ 0 → (lists size slots list .answer ≡ Listed (length (listing size slots))) × ListLaws size slots list
       done-so (refused n e) z = absurd (n z)
-      done-so (done l h) z = (ap (λ (o : Outcome). o .answer) (taken l h), written l h)
+      done-so (done l h) z = (ap (λ (o : ListAfter). o .answer) (taken l h), written l h)
 
-      refused-so : Came → (number (listed size slots list .answer) ≡ 0 → ⊥) → listed size slots list .list ≡ list
+      refused-so : Came → (number (lists size slots list .answer) ≡ 0 → ⊥) → lists size slots list .list ≡ list
       refused-so (refused n e) z = e
-      refused-so (done l h) z = absurd (z (ap (λ (o : Outcome). number (o .answer)) (taken l h)))
+      refused-so (done l h) z = absurd (z (ap (λ (o : ListAfter). number (o .answer)) (taken l h)))

@@ -6,7 +6,7 @@ use lib.ListN.{length, getD}
 use Rattle.tables.specs.Sizes.{slotCount}
 use Rattle.answers.specs.Answers.{number}
 use Rattle.answers.specs.declared.Answer.the-variants.{Listed}
-use Rattle.listing.specs.Listing.{Range, range, listing, listed}
+use Rattle.listing.specs.Listing.{Range, range, listing, lists}
 
 -- ---- the words of document 02, said of any list of ranges
 
@@ -59,7 +59,7 @@ module _ (size : ℕ) (slots : List ℕ) where
 
   module _ (list : List ℕ) where
     abbrev after : ℕ → ℕ
-    after k = getD (listed size slots list .list) k 0
+    after k = getD (lists size slots list .list) k 0
 
     -- the list after an answer 0
     pub record ListLaws : Type 0 where
@@ -69,12 +69,12 @@ module _ (size : ℕ) (slots : List ℕ) where
       pub owner : (i : ℕ) → i < ranges → after (3 * i + 2) ≡ at size slots (listing size slots) i .owner
       -- numbers past the last range stay
       pub past : (k : ℕ) → 3 * ranges ≤ k → after k ≡ getD list k 0
-      pub long : length (listed size slots list .list) ≡ length list
+      pub long : length (lists size slots list .list) ≡ length list
 
-    pub record ListedLaws : Type 0 where
+    pub record AnswerLaws : Type 0 where
       -- an answer 0 tells how many ranges there are, and writes them
-      pub done : number (listed size slots list .answer) ≡ 0 → (listed size slots list .answer ≡ Listed ranges) × ListLaws
+      pub done : number (lists size slots list .answer) ≡ 0 → (lists size slots list .answer ≡ Listed ranges) × ListLaws
       -- any other writes nothing
-      pub refused : (number (listed size slots list .answer) ≡ 0 → ⊥) → listed size slots list .list ≡ list
+      pub refused : (number (lists size slots list .answer) ≡ 0 → ⊥) → lists size slots list .list ≡ list
       -- a list of 49,152 numbers is always enough
-      pub enough : length slots ≡ slotCount → 3 * slotCount ≤ length list → listed size slots list .answer ≡ Listed ranges
+      pub enough : length slots ≡ slotCount → 3 * slotCount ≤ length list → lists size slots list .answer ≡ Listed ranges

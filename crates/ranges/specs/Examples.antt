@@ -6,11 +6,11 @@ use lib.ListN.{replicate}
 use Rattle.tables.specs.Sizes.{slotCount, unowned}
 use Rattle.answers.specs.declared.Answer.{Answer}
 use Rattle.answers.specs.declared.Answer.the-variants.{Listed, ListShort}
-use Rattle.listing.specs.Listing.{Outcome}
+use Rattle.listing.specs.Listing.{ListAfter}
 use Rattle.cases.specs.Cases.{casesNode}
 use Rattle.ranges.specs.Ranges.{ranges}
 
-abbrev outcome : Answer → List ℕ → Outcome
+abbrev outcome : Answer → List ℕ → ListAfter
 outcome answer list = record { answer = answer; list = list }
 
 -- every slot has that entry

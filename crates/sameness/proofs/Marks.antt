@@ -63,7 +63,7 @@ module _ (a b : Node) (e : Alike a b) where
 
   pub ranges-alike : (slots list : List ℕ) → ranges a slots list ≡ ranges b slots list
   unfolding ranges
-  ranges-alike slots list = λ i. checked (listing.refused list) (entry-alike a b e (eqb (length slots) slotCount) i) (listing.listed (size-alike i) slots list)
+  ranges-alike slots list = λ i. checked (listing.refused list) (entry-alike a b e (eqb (length slots) slotCount) i) (listing.lists (size-alike i) slots list)
     where
       size-alike : a .size ≡ b .size
       size-alike = reads-alike a b e (λ n. n .size) (λ n. refl)
