@@ -69,16 +69,16 @@ def entries(data):
         line = data.count(b"\n", 0, place) + 1
         character = place - data.rfind(b"\n", 0, place)
         raise Fault(
-            f"this is no slot table: it has {counted(len(data), 'byte')} and not {2 * SLOTS:,}, "
+            f"this is no slot table: it has {len(data):,} and not {2 * SLOTS:,} bytes, "
             f"and character {character:,} of line {line:,} is neither a hexadecimal digit nor a blank"
         )
     if len(text) != 4 * SLOTS:
-        raise Fault(f"this is no slot table: it has {counted(len(text), 'hexadecimal digit')} and not {4 * SLOTS:,}")
+        raise Fault(f"this is no slot table: it has {len(text):,} and not {4 * SLOTS:,} hexadecimal digits")
     return [int(text[at : at + 4], 16) for at in range(0, len(text), 4)]
 
 
-def counted(count, thing):
-    return f"{count:,} {thing}" if count == 1 else f"{count:,} {thing}s"
+def slots_in(count):
+    return "1 slot" if count == 1 else f"{count:,} slots"
 
 
 def stretches(size, table):
@@ -98,18 +98,18 @@ def told(first, last, owner):
         whose = "is unowned" if one else "are unowned"
     else:
         whose = f"belongs to node {owner}" if one else f"belong to node {owner}"
-    return f"{slots}, that is {counted(last - first + 1, 'slot')}, {whose}"
+    return f"{slots}, that is {slots_in(last - first + 1)}, {whose}"
 
 
 def totals(size, table):
     """How many slots each owner has, and how many nobody has."""
     each = [(node, table.count(node)) for node in range(size)]
-    parts = [f"node {node} owns {counted(count, 'slot')}" for node, count in each if count]
+    parts = [f"node {node} owns {slots_in(count)}" for node, count in each if count]
     free = SLOTS - sum(count for _, count in each)
     if free == 0:
         parts.append("no slot is unowned")
     else:
-        parts.append(f"{counted(free, 'slot')} {'is' if free == 1 else 'are'} unowned")
+        parts.append(f"{slots_in(free)} {'is' if free == 1 else 'are'} unowned")
     return "in all: " + "; ".join(parts)
 
 

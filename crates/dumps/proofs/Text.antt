@@ -9,16 +9,16 @@ use lib.ListN.{length, take, drop, getD, set, length-set, drop-of-length-le}
 use lib.Seq.{drop-cons, take-all, take-suc-set, getD-set-same, set-set, set-getD, append-snoc}
 use Rattle.hex.specs.Hex.{digit}
 use Rattle.hex.proofs.Digits.{digit-lt}
-use Rattle.dumps.specs.Dumps.{isBlank, small, digits, fours}
+use Rattle.dumps.specs.Dumps.{isSpace, small, digits, fours}
 
 -- ---- the digits from place i on
 
 module _ (input : List ℕ) (i : ℕ) where
-  pub blank-here : i < length input → isBlank (getD input i 0) ≡ true → digits (drop i input) ≡ digits (drop (i + 1) input)
+  pub space-here : i < length input → isSpace (getD input i 0) ≡ true → digits (drop i input) ≡ digits (drop (i + 1) input)
   unfolding digits
-  blank-here h e = rw (drop-cons input i 0 h, digits, e, add-one i)
+  space-here h e = rw (drop-cons input i 0 h, digits, e, add-one i)
 
-  pub digit-here : i < length input → isBlank (getD input i 0) ≡ false → digits (drop i input) ≡ digit (small (getD input i 0)) ∷ digits (drop (i + 1) input)
+  pub digit-here : i < length input → isSpace (getD input i 0) ≡ false → digits (drop i input) ≡ digit (small (getD input i 0)) ∷ digits (drop (i + 1) input)
   unfolding digits
   digit-here h e = rw (drop-cons input i 0 h, digits, e, add-one i)
 
@@ -32,10 +32,10 @@ pub record Counted (input : List ℕ) (count i : ℕ) : Type 0 where
   pub rest : count + length (digits (drop i input)) ≡ length (digits input)
 
 module _ {input : List ℕ} {count i : ℕ} (s : Counted input count i) where
-  pub blank-passed : i < length input → isBlank (getD input i 0) ≡ true → Counted input count (i + 1)
-  blank-passed h e = record { few = omega (arith, s .few); rest = rw (← blank-here input i h e) (s .rest) }
+  pub space-passed : i < length input → isSpace (getD input i 0) ≡ true → Counted input count (i + 1)
+  space-passed h e = record { few = omega (arith, s .few); rest = rw (← space-here input i h e) (s .rest) }
 
-  pub digit-counted : i < length input → isBlank (getD input i 0) ≡ false → Counted input (count + 1) (i + 1)
+  pub digit-counted : i < length input → isSpace (getD input i 0) ≡ false → Counted input (count + 1) (i + 1)
   digit-counted h e = record { few = omega (arith, s .few); rest = omega (arith, s .rest, ap (λ (ds : List ℕ). length ds) (digit-here input i h e)) }
 
   pub all-counted : length input ≤ i → count ≡ length (digits input)
@@ -50,7 +50,7 @@ Below (d ∷ ds) = (d < 16) × Below ds
 digits-below : (input : List ℕ) → Below (digits input)
 unfolding digits
 digits-below [] = tt
-digits-below (c ∷ cs) = go (isBlank c) (digits-below cs)
+digits-below (c ∷ cs) = go (isSpace c) (digits-below cs)
   where
     go : (t : Bool) → Below (digits cs) → Below (cond t (digits cs) (digit (small c) ∷ digits cs))
     go true b = b
@@ -114,10 +114,10 @@ pub filling-none : (input slots : List ℕ) → length (digits input) ≡ 4 * le
 filling-none input slots h = record { room = omega arith; rest = poured-fours 0 (digits input) slots (digits-below input) (omega arith) }
 
 module _ {input slots : List ℕ} {n i : ℕ} (f : Filling input slots n i) where
-  pub blank-left : i < length input → isBlank (getD input i 0) ≡ true → Filling input slots n (i + 1)
-  blank-left h e = let q = blank-here input i h e in record { room = rw (← q) (f .room); rest = rw (← q) (f .rest) }
+  pub space-left : i < length input → isSpace (getD input i 0) ≡ true → Filling input slots n (i + 1)
+  space-left h e = let q = space-here input i h e in record { room = rw (← q) (f .room); rest = rw (← q) (f .rest) }
 
-  module _ (h : i < length input) (e : isBlank (getD input i 0) ≡ false) where
+  module _ (h : i < length input) (e : isSpace (getD input i 0) ≡ false) where
     count : length (digits (drop i input)) ≡ suc (length (digits (drop (i + 1) input)))
     count = ap (λ (ds : List ℕ). length ds) (digit-here input i h e)
 

@@ -11,7 +11,7 @@ use borrow.Author.Tests.{ne-eqb, lt-leb, not-false}
 use Rattle.tables.proofs.Checks.{never}
 use Rattle.tables.proofs.Walks.{none-passes}
 use Rattle.hex.specs.Hex.{isDigit, digit}
-use Rattle.dumps.specs.Dumps.{pairs, digits, fours, isBlank, small, isText, NothingLost, Examples}
+use Rattle.dumps.specs.Dumps.{pairs, digits, fours, isSpace, small, isText, NothingLost, Examples}
 use Rattle.dumps.proofs.Memory.{pairAt}
 
 -- each entry by its two bytes
@@ -28,7 +28,7 @@ pairs-at (low ∷ high ∷ rest) (suc s) h =
 
 -- no character of a text is below 9
 text-from : (c : ℕ) → isText c ≡ true → 9 ≤ c
-unfolding isBlank small isDigit
+unfolding isSpace small isDigit
 text-from c e = by (decLt c 9)
   where
     none : c < 9 → isText c ≡ false
@@ -49,5 +49,5 @@ nothing-lost input none s h =
     omega (arith, at .1)
 
 pub examples : Examples
-unfolding pairs digits fours isBlank small digit
+unfolding pairs digits fours isSpace small digit
 examples = (refl, refl)

@@ -24,22 +24,22 @@ pairs (low ∷ high ∷ rest) = (low + high * 256) ∷ pairs rest
 
 -- ---- as text
 
--- a blank; or a tab, a line end or another of the bytes 9 to 13
-unfoldable pub isBlank : ℕ → Bool
-isBlank c = anyOf (eqb c 0x20 ∷ allOf (leb 0x09 c ∷ leb c 0x0d ∷ []) ∷ [])
+-- a space: a blank, or a tab, a line end or another of the bytes 9 to 13
+unfoldable pub isSpace : ℕ → Bool
+isSpace c = anyOf (eqb c 0x20 ∷ allOf (leb 0x09 c ∷ leb c 0x0d ∷ []) ∷ [])
 
 -- a letter from A to F as the small one; any other character as it is
 unfoldable pub small : ℕ → ℕ
 small c = cond (allOf (leb 0x41 c ∷ leb c 0x46 ∷ [])) (c + 0x20) c
 
--- a character that a text may have: a blank, or a digit in either case
+-- a character that a text may have: a space, or a digit in either case
 abbrev pub isText : ℕ → Bool
-isText c = anyOf (isBlank c ∷ isDigit (small c) ∷ [])
+isText c = anyOf (isSpace c ∷ isDigit (small c) ∷ [])
 
--- the values of the characters that are no blanks
+-- the values of the characters that are no spaces
 unfoldable pub digits : List ℕ → List ℕ
 digits [] = []
-digits (c ∷ cs) = cond (isBlank c) (digits cs) (digit (small c) ∷ digits cs)
+digits (c ∷ cs) = cond (isSpace c) (digits cs) (digit (small c) ∷ digits cs)
 
 -- four digits an entry, the highest first
 unfoldable pub fours : List ℕ → List ℕ

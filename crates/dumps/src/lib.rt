@@ -2,7 +2,7 @@
 ghost use mathlib.Core.Path.{_≡_};
 ghost use Prim.Native.Nat.{_*_, _<_};
 ghost use lib.ListN.{length};
-ghost use Rattle.dumps.specs.Dumps.{isBlank, small, isText, digits, fours, pairs, firstOdd, readInto, Outcome};
+ghost use Rattle.dumps.specs.Dumps.{isSpace, small, isText, digits, fours, pairs, firstOdd, readInto, Outcome};
 use tables::Found;
 
 // Entries of a slot table; its bytes in memory, and its digits as text.
@@ -22,8 +22,9 @@ pub enum Reading {
 
 // ---- characters
 
-fn is_blank(c: u8) -> bool
-    ensures { λ r. ⌜ r ≡ isBlank c ⌝ }
+// A blank, a tab, a line end and their like.
+fn is_space(c: u8) -> bool
+    ensures { λ r. ⌜ r ≡ isSpace c ⌝ }
 {
     if c == b' ' {
         return true;
@@ -50,7 +51,7 @@ fn small(c: u8) -> u8
 fn is_text(c: u8) -> bool
     ensures { λ r. ⌜ r ≡ isText c ⌝ }
 {
-    if is_blank(c) {
+    if is_space(c) {
         return true;
     }
     hex::is_digit(small(c))
@@ -79,7 +80,7 @@ fn count_digits(input: &[u8]) -> usize
     let mut count: usize = 0;
     let mut i: usize = 0;
     while i < input.len() {
-        if is_blank(input[i]) {
+        if is_space(input[i]) {
             i += 1;
             continue;
         }
@@ -120,7 +121,7 @@ fn fill_from_text(input: &[u8], slots: &mut [u16])
     let mut n: usize = 0;
     let mut i: usize = 0;
     while i < input.len() {
-        if is_blank(input[i]) {
+        if is_space(input[i]) {
             i += 1;
             continue;
         }

@@ -3,7 +3,7 @@ use mathlib.Core.Path.{sym, _∙_}
 use Prim.Native.Nat.{_-_}
 use native.Mathlib.Omega.{arith}
 use lib.ListN.{length}
-use Rattle.dumps.proofs.Text.{Counted, blank-passed, digit-counted, all-counted}
+use Rattle.dumps.proofs.Text.{Counted, space-passed, digit-counted, all-counted}
 use borrow.Author.Needs.{needs}
 use Rattle.dumps.proofs.count_digits.Statement.{statement}
 use Rattle.dumps.proofs.count_digits.Tie as tie
@@ -21,13 +21,13 @@ loop-again : tie.Need-loop-again Inv-loop μ-loop
 loop-again c =
     let t = c .before in
     let l = t .before .before in
-    blank-passed (l .before .loop .inv) (l .loop-test .taken) (sym (t .is-blank .ensures) ∙ c .if1 .taken)
+    space-passed (l .before .loop .inv) (l .loop-test .taken) (sym (t .is-space .ensures) ∙ c .if1 .taken)
 
 loop-again-2 : tie.Need-loop-again-2 Inv-loop μ-loop
 loop-again-2 c =
     let t = c .before in
     let l = t .before .before in
-    digit-counted (l .before .loop .inv) (l .loop-test .taken) (sym (t .is-blank .ensures) ∙ c .if1 .left)
+    digit-counted (l .before .loop .inv) (l .loop-test .taken) (sym (t .is-space .ensures) ∙ c .if1 .left)
 
 returns : tie.Need-returns Inv-loop μ-loop
 returns c = all-counted (c .before .loop .inv) (c .loop-test .left)

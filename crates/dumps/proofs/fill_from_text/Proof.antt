@@ -3,7 +3,7 @@ use mathlib.Core.Path.{_≡_, sym, ap, _∙_}
 use Prim.Native.Nat.{_-_, _/_, _<_}
 use lib.ListN.{length, getD}
 use Rattle.hex.specs.Hex.{digit}
-use Rattle.dumps.proofs.Text.{Filling, filling-none, blank-left, inside, digit-in, filled, behind}
+use Rattle.dumps.proofs.Text.{Filling, filling-none, space-left, inside, digit-in, filled, behind}
 use borrow.Author.Needs.{needs}
 use Rattle.dumps.proofs.fill_from_text.Statement.{statement}
 use Rattle.dumps.proofs.fill_from_text.Tie as tie
@@ -19,7 +19,7 @@ within : (c : tie.Else1 Inv-loop μ-loop) → let l = c .before .before .before 
 within c =
     let t = c .before in
     let l = t .before .before in
-    inside (l .before .loop .inv .1) (l .loop-test .taken) (sym (t .is-blank .ensures) ∙ c .if1 .left)
+    inside (l .before .loop .inv .1) (l .loop-test .taken) (sym (t .is-space .ensures) ∙ c .if1 .left)
 
 loop-holds : tie.Need-loop-holds Inv-loop μ-loop
 loop-holds c = (search needs, filling-none _ _ (c .before .before .pre))
@@ -28,7 +28,7 @@ loop-again : tie.Need-loop-again Inv-loop μ-loop
 loop-again c =
     let t = c .before in
     let l = t .before .before in
-    (search needs, blank-left (l .before .loop .inv .1) (l .loop-test .taken) (sym (t .is-blank .ensures) ∙ c .if1 .taken))
+    (search needs, space-left (l .before .loop .inv .1) (l .loop-test .taken) (sym (t .is-space .ensures) ∙ c .if1 .taken))
 
 slice-read-slots : tie.Need-slice-read-slots Inv-loop μ-loop
 slice-read-slots c = within (c .before)
@@ -43,7 +43,7 @@ loop-again-2 c =
     let t = e .before in
     let l = t .before .before in
     let q : c .wide .result ≡ digit _ = c .wide .ensures .0 ∙ v .value .ensures .0 ∙ ap digit (v .before .small .ensures) in
-    (search needs, digit-in (l .before .loop .inv .1) (l .loop-test .taken) (sym (t .is-blank .ensures) ∙ e .if1 .left) _ (ap (behind (getD (l .before .loop .slots) (l .before .loop .n / 4) 0)) q))
+    (search needs, digit-in (l .before .loop .inv .1) (l .loop-test .taken) (sym (t .is-space .ensures) ∙ e .if1 .left) _ (ap (behind (getD (l .before .loop .slots) (l .before .loop .n / 4) 0)) q))
 
 returns : tie.Need-returns Inv-loop μ-loop
 returns c = filled (c .before .loop .inv .1) (c .loop-test .left)
