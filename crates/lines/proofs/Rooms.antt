@@ -1,15 +1,16 @@
 -- What a buffer holds of a text that was written into it: as much as there is room for.
 use mathlib.Core.Path.{_≡_, refl, sym, _∙_}
-use mathlib.Core.Bool.{Bool, true, false}
+use mathlib.Core.Bool.{Bool, true, false, cond}
 use mathlib.Core.List.{List, [], _∷_, _++_, append-nil, append-assoc}
-use Prim.Native.Nat.{ℕ, suc, _+_, _-_, _≤_, _<_}
+use Prim.Native.Nat.{ℕ, zero, suc, _+_, _-_, _/_, _≤_, _<_}
 use native.Mathlib.Omega.{arith}
 use native.Mathlib.Numerals.{add-one}
 use lib.Dec.{ltb}
-use lib.ListN.{length, take, set, replicate, length-set, length-replicate}
-use lib.Seq.{set-out, length-take-le, take-nil, take-suc-set}
+use lib.ListN.{length, take, set, replicate, length-set, length-replicate, length-append}
+use lib.Seq.{set-out, length-take-le, take-nil, take-all, take-suc-set}
 use borrow.Author.Tests.{lt-ltb, le-ltb, ltb-true, ltb-false}
-use Rattle.lines.specs.Texts.{Text, put, puts}
+use Rattle.io.specs.Digits.{digits}
+use Rattle.lines.specs.Texts.{Text, put, puts, width, decimal}
 
 abbrev pub text : List ℕ → ℕ → Text
 text bytes at = record { bytes = bytes; end = at }
@@ -75,3 +76,26 @@ module _ (n : ℕ) (l : List ℕ) {u : Text} (e : u ≡ puts (blank n) l) where
 
   pub holds : take (u .end) (u .bytes) ≡ take n l
   holds = let z : length (blank n .bytes) - 0 ≡ n = omega (arith, size n) in whole .front ∙ rw z
+
+-- ---- the decimal digits of a number
+
+digit-count : (k n : ℕ) → length (digits 10 k n) ≡ k
+digit-count zero n = refl
+digit-count (suc k) n = length-append (digits 10 k (n / 10)) _ ∙ rw (digit-count k (n / 10)) (omega arith)
+
+width-within : (limit n : ℕ) → width limit n ≤ suc limit
+unfolding width
+width-within zero n = omega arith
+width-within (suc limit) n = go (ltb n 10) (width-within limit (n / 10))
+  where
+    go : (t : Bool) → width limit (n / 10) ≤ suc limit → cond t 1 (suc (width limit (n / 10))) ≤ suc (suc limit)
+    go true h = omega arith
+    go false h = omega arith
+
+-- 20 bytes have room for all of them
+pub at-most-20 : (n : ℕ) → length (decimal n) ≤ 20
+unfolding decimal
+at-most-20 n = omega (arith, digit-count (width 19 n) n, width-within 19 n)
+
+pub holds-decimal : (n : ℕ) {u : Text} → u ≡ puts (blank 20) (decimal n) → take (u .end) (u .bytes) ≡ decimal n
+holds-decimal n e = holds 20 (decimal n) e ∙ take-all 20 (decimal n) (at-most-20 n)

@@ -1,0 +1,2 @@
+pub mod Aloud
+pub mod Examples

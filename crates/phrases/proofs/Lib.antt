@@ -1,0 +1,3 @@
+pub mod Commas
+pub mod Filled
+pub mod Examples

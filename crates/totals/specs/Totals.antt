@@ -1,0 +1,40 @@
+-- The last line below a listing in words: how many slots each node owns, and how many nobody.
+use Prim.Native.Nat.{ℕ, zero, suc}
+use mathlib.Core.Bool.{not, cond}
+use mathlib.Core.List.{List, [], _∷_, _++_}
+use lib.Dec.{eqb, ltb}
+use Rattle.tables.specs.Lists.{countAt}
+use Rattle.lines.specs.Texts.{ascii}
+use Rattle.phrases.specs.Phrases.{filled}
+
+-- ---- the numbers
+
+-- how many entries of a table are node k's
+abbrev pub owned : List ℕ → ℕ → ℕ
+owned slots k = countAt (λ s owner. eqb owner k) slots
+
+-- how many are no number of the roster
+abbrev pub unowned : ℕ → List ℕ → ℕ
+unowned size slots = countAt (λ s owner. not (ltb owner size)) slots
+
+-- ---- the words
+
+-- what is said of no slot, of one, and of more
+abbrev pub counted : ℕ → List ℕ → List ℕ → List ℕ → List ℕ
+counted n none one more = cond (eqb n 0) none (cond (eqb n 1) one more)
+
+-- node k owns n slots: not a word if that is none
+unfoldable pub share : ℕ → ℕ → List ℕ
+share k n = counted n [] (filled (ascii "node % owns 1 slot; ") (k ∷ [])) (filled (ascii "node % owns % slots; ") (k ∷ n ∷ []))
+
+-- the nodes below a number, in ascending order
+unfoldable pub shares : List ℕ → ℕ → List ℕ
+shares slots zero = []
+shares slots (suc k) = shares slots k ++ share k (owned slots k)
+
+-- n slots are nobody's
+unfoldable pub rest : ℕ → List ℕ
+rest n = counted n (ascii "no slot is unowned\n") (ascii "1 slot is unowned\n") (filled (ascii "% slots are unowned\n") (n ∷ []))
+
+unfoldable pub totals : ℕ → List ℕ → List ℕ
+totals size slots = ascii "in all: " ++ shares slots size ++ rest (unowned size slots)
