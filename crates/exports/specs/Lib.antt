@@ -1,3 +1,4 @@
 pub mod Claims
 pub mod Frames
+pub mod Listings
 pub mod Steps

@@ -2,6 +2,7 @@
 ghost use mathlib.Core.Path.{_≡_};
 ghost use Rattle.slots.specs.Key.{keySlot};
 ghost use Rattle.ownership.specs.Claim.{claimant, claim};
+ghost use Rattle.listing.specs.Listing.{lists};
 ghost use Rattle.state.specs.Outcomes.{Stepped};
 ghost use Rattle.cases.specs.Cases.{casesNode};
 ghost use Rattle.rosters.specs.Rosters.{roster};
@@ -9,6 +10,7 @@ ghost use Rattle.frames.specs.Frames.{layoutOf, bitmapOf, frameOf};
 ghost use Rattle.digests.specs.Frames.{frameDigest};
 ghost use Rattle.exports.specs.Claims.{digested, Digested};
 ghost use Rattle.exports.specs.Frames.{byLayout, bitmapAfter};
+ghost use Rattle.exports.specs.Listings.{numbered, Numbered};
 ghost use Rattle.exports.specs.Steps.{first, again, repeated, Repeated};
 use answers::Answer;
 use frames::Decoded;
@@ -38,6 +40,14 @@ pub extern "C" fn ukweribaso_claim(
     ensures { λ r. ⌜ record { digest = r; slots = now (slots .exit) } ≡ digested (claim (claimant (now (configs .entry)) size sender config) (now (bitmap .entry)) (now (slots .entry))) ⌝ }
 {
     digests::of_tally(ownership::claim(slots, bitmap, configs, size, sender, config))
+}
+
+// The ranges of a slot table, written to the list: document 02, [1]. It answers 0, 1 or 40.
+#[no_mangle]
+pub extern "C" fn ukweribaso_ranges(slots: &[u16], size: u16, list: &mut [u16]) -> u8
+    ensures { λ r. ⌜ record { number = r; list = now (list .exit) } ≡ numbered (lists size (now (slots .entry)) (now (list .entry))) ⌝ }
+{
+    answers::number(listing::list(slots, size, list))
 }
 
 fn bitmap_of(kind: Kind, line: &[u8], bitmap: &mut [u8; 2048])

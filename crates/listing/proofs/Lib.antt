@@ -1,2 +1,5 @@
 pub mod Stretches
 pub mod Writing
+pub mod Fits
+pub mod Only
+pub mod Laws

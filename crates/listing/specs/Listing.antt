@@ -56,18 +56,18 @@ abbrev pub isShort : List Range → List ℕ → Bool
 isShort rs list = ltb (length list) (3 * length rs)
 
 -- what a listing leaves: its answer and the list
-pub record Outcome : Type 0 where
+pub record ListAfter : Type 0 where
   pub answer : Answer
   pub list : List ℕ
 
 -- a refusal writes nothing
-abbrev pub refused : List ℕ → Answer → Outcome
+abbrev pub refused : List ℕ → Answer → ListAfter
 refused list a = record { answer = a; list = list }
 
--- ranges that are known: 40 with the number needed; else 0 with the number of ranges
-unfoldable pub told : List Range → List ℕ → Outcome
-told rs list = checked (refused list) ((isShort rs list, ListShort (length rs)) ∷ []) (record { answer = Listed (length rs); list = laid rs list })
+-- ranges entered in a list: 40 with the number of ranges needed; else 0 with their number
+unfoldable pub entered : List Range → List ℕ → ListAfter
+entered rs list = checked (refused list) ((isShort rs list, ListShort (length rs)) ∷ []) (record { answer = Listed (length rs); list = laid rs list })
 
 -- 1, then 40; else 0
-unfoldable pub listed : ℕ → List ℕ → List ℕ → Outcome
-listed size slots list = checked (refused list) ((not (eqb (length slots) slotCount), WrongLength) ∷ []) (told (listing size slots) list)
+unfoldable pub lists : ℕ → List ℕ → List ℕ → ListAfter
+lists size slots list = checked (refused list) ((not (eqb (length slots) slotCount), WrongLength) ∷ []) (entered (listing size slots) list)

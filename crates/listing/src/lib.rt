@@ -4,7 +4,7 @@ ghost use Prim.Native.Nat.{_+_, _*_, _≤_, _<_};
 ghost use mathlib.Core.List.{_∷_, _++_};
 ghost use lib.ListN.{length, take, drop};
 ghost use lib.Dec.{ltb};
-ghost use Rattle.listing.specs.Listing.{listing, laid, listed, Outcome};
+ghost use Rattle.listing.specs.Listing.{listing, laid, lists, ListAfter};
 ghost use Rattle.listing.specs.Stretches.{alike, isEnd, one};
 use answers::Answer;
 
@@ -91,13 +91,14 @@ fn write(slots: &[u16], size: u16, list: &mut [u16])
 
 // The ranges of a slot table, by the roster's size, written to the list, if it has room for them.
 pub fn list(slots: &[u16], size: u16, list: &mut [u16]) -> Answer
-    ensures { λ r. ⌜ record { answer = r; list = now (list .exit) } ≡ listed size (now (slots .entry)) (now (list .entry)) ⌝ }
+    ensures { λ r. ⌜ record { answer = r; list = now (list .exit) } ≡ lists size (now (slots .entry)) (now (list .entry)) ⌝ }
 {
     if slots.len() != tables::SLOTS as usize {
         return Answer::WrongLength;
     }
     let count = count(slots, size);
-    if list.len() < 3 * count {
+    let numbers = 3 * count;
+    if list.len() < numbers {
         return Answer::ListShort(count);
     }
     write(slots, size, list);

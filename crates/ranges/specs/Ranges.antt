@@ -7,8 +7,8 @@ use Rattle.tables.specs.Sizes.{slotCount}
 use Rattle.tables.specs.Checks.{checked}
 use Rattle.state.specs.declared.Node.{Node}
 use Rattle.entry.specs.Entry.{entryChecks}
-use Rattle.listing.specs.Listing.{Outcome, refused, listed}
+use Rattle.listing.specs.Listing.{ListAfter, refused, lists}
 
 -- refusals 1, then 7; then the listing for the node's roster: 40, or 0
-unfoldable pub ranges : Node → List ℕ → List ℕ → Outcome
-ranges n slots list = checked (refused list) (entryChecks (eqb (length slots) slotCount) n) (listed (n .size) slots list)
+unfoldable pub ranges : Node → List ℕ → List ℕ → ListAfter
+ranges n slots list = checked (refused list) (entryChecks (eqb (length slots) slotCount) n) (lists (n .size) slots list)

@@ -1,6 +1,6 @@
 // The ranges of its slot table, asked of a node: document 02, [1]. The call reads the node and changes nothing but the list.
 ghost use mathlib.Core.Path.{_≡_};
-ghost use Rattle.listing.specs.Listing.{Outcome};
+ghost use Rattle.listing.specs.Listing.{ListAfter};
 ghost use Rattle.ranges.specs.Ranges.{ranges};
 use answers::Answer;
 use answers::Check;

@@ -34,7 +34,7 @@ use Rattle.sameness.proofs.Told.{Told, same-step, answered-told, entry-
 use Rattle.sameness.proofs.Failure.{probe-change, tick-change, fail-change, reported-told}
 use Rattle.sameness.proofs.Heartbeats.{heartbeat-told}
 use Rattle.sameness.proofs.Elections.{requested-told, standing-told, acked-told}
-use Rattle.sameness.proofs.Marks.{routed-alike, set-told, clear-told}
+use Rattle.sameness.proofs.Marks.{routed-alike, ranges-alike, set-told, clear-told}
 
 -- ---- what rules read of a sound state is in the roster
 
@@ -130,4 +130,5 @@ same-states-act-alike a b p q s =
       list = λ ms. list-told a b e ms .0;
       state = λ ms. alike-same _ _ (list-told a b e ms .1);
       reply = λ ms. routed-alike _ _ (list-told a b e ms .1);
+      listing = λ ms. ranges-alike _ _ (list-told a b e ms .1);
     }

@@ -1,5 +1,5 @@
--- Redirections, and marks set and cleared, on two nodes that are alike.
-use mathlib.Core.Path.{_≡_, sym, ap, _∙_}
+-- Redirections and listings, and marks set and cleared, on two nodes that are alike.
+use mathlib.Core.Path.{_≡_, refl, sym, ap, _∙_}
 use mathlib.Core.Bool.{Bool, true}
 use mathlib.Core.List.{List, _++_}
 use Prim.Native.Nat.{ℕ, _+_, _-_}
@@ -21,6 +21,8 @@ use Rattle.slots.specs.Key.{keySlot}
 use Rattle.marks.specs.Marks.{marksOf, others, insert, remarked}
 use Rattle.marks.specs.MarkChanges.{markChecks, setChecks, setMark, unmarkChecks, clearChecks, clearMark}
 use Rattle.routing.specs.Replies.{refused, redirected, routed}
+use Rattle.listing.specs.Listing as listing
+use Rattle.ranges.specs.Ranges.{ranges}
 use Rattle.kinds.specs.Kinds.{keeping}
 use Rattle.sameness.proofs.Seen.{Seen, seen, Alike, bare, stateOf, Reads, from-seen, reads-alike}
 use Rattle.sameness.proofs.Told.{Told, answered-told, checked-told, entry-alike}
@@ -58,6 +60,13 @@ module _ (a b : Node) (e : Alike a b) where
     where
       redirected-alike : redirected a slots (keySlot key) present asking ≡ redirected b slots (keySlot key) present asking
       redirected-alike = reads-alike a b e (λ n. redirected n slots (keySlot key) present asking) (λ n. rw (marks-read n))
+
+  pub ranges-alike : (slots list : List ℕ) → ranges a slots list ≡ ranges b slots list
+  unfolding ranges
+  ranges-alike slots list = λ i. checked (listing.refused list) (entry-alike a b e (eqb (length slots) slotCount) i) (listing.lists (size-alike i) slots list)
+    where
+      size-alike : a .size ≡ b .size
+      size-alike = reads-alike a b e (λ n. n .size) (λ n. refl)
 
   pub set-told : (slots reports : List ℕ) (s : ℕ) (move : Move) → Told (keeping slots reports (setMark a slots s move)) (keeping slots reports (setMark b slots s move))
   unfolding setMark

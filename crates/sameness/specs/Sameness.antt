@@ -10,6 +10,7 @@ use Rattle.state.specs.Same.{Same}
 use Rattle.state.specs.declared.Node.{Node}
 use Rattle.soundness.specs.Sound.{arraysWhole}
 use Rattle.routing.specs.Replies.{routed}
+use Rattle.ranges.specs.Ranges.{ranges}
 use Rattle.node.specs.Calls.{Tables, Call, called, outcome, tablesAfter}
 
 -- ---- one call
@@ -45,9 +46,10 @@ pub record ActAlike (a b : Node) : Type 0 where
   pub call : (t : Tables) (c : Call) → SameStep (called a t c) (called b t c)
   -- every list of calls, each with any tables lent
   pub list : (ms : List LentCall) → told a ms ≡ told b ms
-  -- and after it the state, and where a key goes
+  -- and after it the state, where a key goes, and the ranges that are listed
   pub state : (ms : List LentCall) → Same (stateAfter a ms) (stateAfter b ms)
   pub reply : (ms : List LentCall) (slots key : List ℕ) (present asking : Bool) → routed (stateAfter a ms) slots key present asking ≡ routed (stateAfter b ms) slots key present asking
+  pub listing : (ms : List LentCall) (slots list : List ℕ) → ranges (stateAfter a ms) slots list ≡ ranges (stateAfter b ms) slots list
 
 -- of nodes whose arrays have their types' lengths, as those of every value of the program have
 abbrev pub SameStatesActAlike : Node → Node → Type 0

@@ -4,7 +4,7 @@ use Prim.Native.Nat.{_≤_}
 use native.Mathlib.Omega.{arith}
 use lib.ListN.{length}
 use borrow.Author.Tests.{eq-eqb, ne-eqb, lt-ltb, le-ltb}
-use Rattle.listing.specs.Listing.{listing, listed, told}
+use Rattle.listing.specs.Listing.{listing, lists, entered}
 use Rattle.listing.proofs.Stretches.{few}
 use borrow.Author.Needs.{needs}
 use Rattle.listing.proofs.list.Statement.{statement}
@@ -14,19 +14,19 @@ cast-if1 : tie.Need-cast-if1
 cast-if1 c = search needs
 
 returns : tie.Need-returns
-unfolding listed
+unfolding lists
 returns c = rw (ne-eqb _ _ (c .if1 .taken))
 
 count-requires : tie.Need-count-requires
 count-requires c κs = search needs
 
-mul-if2 : tie.Need-mul-if2
-mul-if2 c =
+mul-numbers : tie.Need-mul-numbers
+mul-numbers c =
     let a = c .before .before .before .before .args in
     omega (arith, c .count .ensures, few (a .size) 0 (a .slots .now), c .before .if1 .left)
 
 returns-2 : tie.Need-returns-2
-unfolding listed told
+unfolding lists entered
 returns-2 c = rw (eq-eqb _ _ (c .before .before .if1 .left), ← c .before .count .ensures, lt-ltb _ _ (c .if2 .taken))
 
 write-requires : tie.Need-write-requires
@@ -36,7 +36,7 @@ same-length : tie.Need-same-length
 same-length c = search needs
 
 returns-3 : tie.Need-returns-3
-unfolding listed told
+unfolding lists entered
 returns-3 c =
     let x = c .before .before .before .before .before in
     rw (c .before .before .write .ensures, eq-eqb _ _ (x .before .if1 .left), ← x .count .ensures, le-ltb _ _ (c .before .before .before .before .if2 .left))
@@ -48,7 +48,7 @@ list-spec =
     cast-if1
     returns
     count-requires
-    mul-if2
+    mul-numbers
     returns-2
     write-requires
     same-length

@@ -5,7 +5,7 @@ use lib.Dec.{eqb}
 use Rattle.tables.specs.Sizes.{slotCount}
 use Rattle.answers.proofs.Checks.{onCheck, by-check}
 use Rattle.entry.specs.Entry.{entryChecks}
-use Rattle.listing.specs.Listing.{refused, listed}
+use Rattle.listing.specs.Listing.{refused, lists}
 use Rattle.ranges.specs.Ranges.{ranges}
 use borrow.Author.Needs.{needs}
 use Rattle.ranges.proofs.ranges.Statement.{statement}
@@ -13,7 +13,7 @@ use Rattle.ranges.proofs.ranges.Tie as tie
 
 -- the definition, by what the first checks came to
 by : (c : tie.After-checks) → let a = c .before .before .before .args in
-    ranges (a .node) (a .slots .now) (a .list .now) ≡ onCheck (refused (a .list .now)) (listed (a .node .size) (a .slots .now) (a .list .now)) (c .checks .result)
+    ranges (a .node) (a .slots .now) (a .list .now) ≡ onCheck (refused (a .list .now)) (lists (a .node .size) (a .slots .now) (a .list .now)) (c .checks .result)
 unfolding ranges
 by c = let a = c .before .before .before .args in
     by-check (refused (a .list .now)) (entryChecks (eqb (length (a .slots .now)) slotCount) (a .node)) _ ∙ ap (onCheck (refused (a .list .now)) _) (sym (c .checks .ensures))
