@@ -74,7 +74,7 @@ module _ (size : ℕ) (slots : List ℕ) where
 
 -- ---- the list
 
-three-a-range : (rs : List Range) → length (flat rs) ≡ 3 * length rs
+pub three-a-range : (rs : List Range) → length (flat rs) ≡ 3 * length rs
 unfolding flat
 three-a-range [] = refl
 three-a-range (r ∷ rs) = omega (arith, three-a-range rs)

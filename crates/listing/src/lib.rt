@@ -104,3 +104,15 @@ pub fn list(slots: &[u16], size: u16, list: &mut [u16]) -> Answer
     write(slots, size, list);
     Answer::Listed(count)
 }
+
+// The same with a table and a list that have their lengths: nothing can be refused, and the number of ranges is the answer.
+pub fn list_whole(
+    slots: &[u16; tables::SLOTS as usize],
+    size: u16,
+    list: &mut [u16; 3 * tables::SLOTS as usize],
+) -> usize
+    ensures { λ r. ⌜ (r ≡ length (listing size (now (slots .entry)))) × (now (list .exit) ≡ laid (listing size (now (slots .entry))) (now (list .entry))) ⌝ }
+{
+    write(slots, size, list);
+    count(slots, size)
+}

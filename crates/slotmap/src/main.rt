@@ -5,7 +5,8 @@ ghost use mathlib.Core.Bool.{cond};
 ghost use Prim.Native.Nat.{_*_};
 ghost use lib.ListN.{take};
 ghost use Rattle.words.specs.Numbers.{value, between};
-use answers::Answer;
+ghost use Rattle.lines.specs.Texts.{Text, puts};
+ghost use Rattle.slotmap.specs.Table.{inWords};
 use dumps::Reading;
 use libc::STDERR_FILENO;
 use libc::STDIN_FILENO;
@@ -176,13 +177,17 @@ fn ranges(list: &[u16], count: usize) -> &[u16]
     list
 }
 
-// Prints a table, with room for its ranges and for what is said of them.
-fn print(slots: &[u16; SLOTS], size: u16, list: &mut [u16], out: &mut [u8]) {
-    let Answer::Listed(count) = listing::list(slots, size, list) else {
-        return;
-    };
-    let told = aloud::put_listing(out, 0, b"", ranges(list, count));
-    let end = totals::put_totals(out, told, slots, size);
+// What is said of a table, from the front of a buffer on. The list has room for its ranges.
+fn put_table(slots: &[u16; SLOTS], size: u16, list: &mut [u16; LIST], out: &mut [u8]) -> usize
+    ensures { λ r. ⌜ record { bytes = now (out .exit); end = r } ≡ puts (record { bytes = now (out .entry); end = 0 }) (inWords size (now (slots .entry))) ⌝ }
+{
+    let count = listing::list_whole(slots, size, list);
+    let end = aloud::put_listing(out, 0, b"", ranges(list, count));
+    totals::put_totals(out, end, slots, size)
+}
+
+fn print(slots: &[u16; SLOTS], size: u16, list: &mut [u16; LIST], out: &mut [u8]) {
+    let end = put_table(slots, size, list, out);
     lines::flush(out, end);
 }
 

@@ -6,12 +6,12 @@ use borrow.Author.Needs.{needs}
 use Rattle.slotmap.proofs.tell.Statement.{statement}
 use Rattle.slotmap.proofs.tell.Tie as tie
 
-slice-aggregate-print-2 : tie.Need-slice-aggregate-print-2
-slice-aggregate-print-2 c = sym (length-replicate {A = ℕ} 1048576 0)
+slice-aggregate-print : tie.Need-slice-aggregate-print
+slice-aggregate-print c = sym (length-replicate {A = ℕ} 1048576 0)
 
 pub tell-spec : {M : Type 1} → statement M
 tell-spec =
     tie.close
-    (tie.spec (λ c κs. search needs) (λ c. search needs) (λ c. search needs) slice-aggregate-print-2
+    (tie.spec (λ c κs. search needs) (λ c. search needs) slice-aggregate-print
     (λ c κs. search needs) (λ c. search needs) (λ c κs. search needs) (λ c. search needs) (λ c κs. search needs)
     (λ c. search needs) (λ c. search needs) (λ c. search needs))
