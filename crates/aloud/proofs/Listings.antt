@@ -10,7 +10,7 @@ use Rattle.tables.specs.Sizes.{slotCount}
 use Rattle.lines.specs.Texts.{Text, puts}
 use Rattle.lines.proofs.Texts.{puts-append, then}
 use Rattle.listing.specs.Listing.{Range, range, flat}
-use Rattle.aloud.specs.Aloud.{owned, gap, spokenFrom, rangesOf, ReadsBack}
+use Rattle.aloud.specs.Aloud.{ownedLine, gap, spokenFrom, rangesOf, ReadsBack}
 
 pub reads-back : (rs : List Range) → ReadsBack rs
 unfolding rangesOf flat
@@ -37,12 +37,12 @@ module _ (margin list : List ℕ) (i next : ℕ) where
 
   -- the lines from place i on: the next range, with what is unowned before it
   pub next-range : (t : Text) {u v w : Text} {a b o : ℕ} → 3 ≤ length list - i → a ≡ getD list i 0 → b ≡ getD list (i + 1) 0 → o ≡ getD list (i + 2) 0
-      → u ≡ puts t (gap margin next a) → v ≡ puts u margin → w ≡ puts v (owned (range a b o))
+      → u ≡ puts t (gap margin next a) → v ≡ puts u margin → w ≡ puts v (ownedLine (range a b o))
       → puts t (spokenFrom margin next (rangesOf (drop i list))) ≡ puts w (spokenFrom margin (b + 1) (rangesOf (drop (i + 3) list)))
   unfolding spokenFrom rangesOf
   next-range t {u} {v} {w} {a} {b} {o} h ea eb eo eu ev ew =
       rw (three h, ← ea, ← eb, ← eo, rangesOf, spokenFrom, add-one b, then t _ _ (then t _ _ eu ev) ew)
-      (puts-append t (gap margin next a ++ margin ++ owned (range a b o)) (spokenFrom margin (suc b) (rangesOf (drop (i + 3) list))))
+      (puts-append t (gap margin next a ++ margin ++ ownedLine (range a b o)) (spokenFrom margin (suc b) (rangesOf (drop (i + 3) list))))
 
   -- and what is unowned behind the last one
   pub no-range : (t : Text) {u : Text} → length list - i < 3 → u ≡ puts t (gap margin next slotCount) → u ≡ puts t (spokenFrom margin next (rangesOf (drop i list)))

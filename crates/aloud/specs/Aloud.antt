@@ -15,30 +15,30 @@ use Rattle.listing.specs.Listing.{Range, range, flat}
 abbrev pub span : ℕ → ℕ → ℕ
 span first last = suc last - first
 
--- whose the slots of a range are
-unfoldable pub owned : Range → List ℕ
-owned r =
+-- the line of a range: whose its slots are
+unfoldable pub ownedLine : Range → List ℕ
+ownedLine r =
     cond (eqb (r .first) (r .last))
     (filled (ascii "slot %, that is 1 slot, belongs to node %\n") (r .first ∷ r .owner ∷ []))
     (filled (ascii "slots % to %, that is % slots, belong to node %\n") (r .first ∷ r .last ∷ span (r .first) (r .last) ∷ r .owner ∷ []))
 
--- slots that are nobody's
-unfoldable pub unowned : ℕ → ℕ → List ℕ
-unowned first last =
+-- the line of slots that nobody owns
+unfoldable pub unownedLine : ℕ → ℕ → List ℕ
+unownedLine first last =
     cond (eqb first last)
     (filled (ascii "slot %, that is 1 slot, is unowned\n") (first ∷ []))
     (filled (ascii "slots % to %, that is % slots, are unowned\n") (first ∷ last ∷ span first last ∷ []))
 
 -- ---- the lines of a listing, each with a margin in front
 
--- from a slot up to the next that is owned: a line if there are any slots between
+-- the slots from one up to the next that is owned: a line if there are any
 unfoldable pub gap : List ℕ → ℕ → ℕ → List ℕ
-gap margin from next = cond (ltb from next) (margin ++ unowned from (next - 1)) []
+gap margin from next = cond (ltb from next) (margin ++ unownedLine from (next - 1)) []
 
--- all that is left to say: the slots from `next` on, of which the ranges are given
+-- what is left to say from slot `next` on, where these ranges are left
 unfoldable pub spokenFrom : List ℕ → ℕ → List Range → List ℕ
 spokenFrom margin next [] = gap margin next slotCount
-spokenFrom margin next (r ∷ rs) = gap margin next (r .first) ++ margin ++ owned r ++ spokenFrom margin (suc (r .last)) rs
+spokenFrom margin next (r ∷ rs) = gap margin next (r .first) ++ margin ++ ownedLine r ++ spokenFrom margin (suc (r .last)) rs
 
 abbrev pub spoken : List ℕ → List Range → List ℕ
 spoken margin rs = spokenFrom margin 0 rs

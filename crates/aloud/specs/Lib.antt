@@ -1,2 +1,3 @@
 pub mod Aloud
 pub mod Examples
+pub mod Room

@@ -3,7 +3,7 @@ ghost use mathlib.Core.Path.{_≡_};
 ghost use Prim.Native.Nat.{_<_};
 ghost use Rattle.lines.specs.Texts.{Text, puts};
 ghost use Rattle.listing.specs.Listing.{range};
-ghost use Rattle.aloud.specs.Aloud.{span, owned, unowned, gap, spoken, rangesOf};
+ghost use Rattle.aloud.specs.Aloud.{span, ownedLine, unownedLine, gap, spoken, rangesOf};
 
 // ---- a line
 
@@ -24,10 +24,10 @@ fn span(first: u64, last: u64) -> u64
     last - first + 1
 }
 
-// Adds whose the slots of a range are.
+// Adds the line of a range: whose its slots are.
 fn put_owned(out: &mut [u8], at: usize, first: u64, last: u64, owner: u64) -> usize
     requires { ⌜ last < 65536 ⌝ }
-    ensures { λ r. ⌜ record { bytes = now (out .exit); end = r } ≡ puts (record { bytes = now (out .entry); end = at }) (owned (range first last owner)) ⌝ }
+    ensures { λ r. ⌜ record { bytes = now (out .exit); end = r } ≡ puts (record { bytes = now (out .entry); end = at }) (ownedLine (range first last owner)) ⌝ }
 {
     if first == last {
         return phrases::put_filled(
@@ -45,10 +45,10 @@ fn put_owned(out: &mut [u8], at: usize, first: u64, last: u64, owner: u64) -> us
     )
 }
 
-// Adds that slots are nobody's.
+// Adds the line of slots that nobody owns.
 fn put_unowned(out: &mut [u8], at: usize, first: u64, last: u64) -> usize
     requires { ⌜ last < 65536 ⌝ }
-    ensures { λ r. ⌜ record { bytes = now (out .exit); end = r } ≡ puts (record { bytes = now (out .entry); end = at }) (unowned first last) ⌝ }
+    ensures { λ r. ⌜ record { bytes = now (out .exit); end = r } ≡ puts (record { bytes = now (out .entry); end = at }) (unownedLine first last) ⌝ }
 {
     if first == last {
         return phrases::put_filled(out, at, b"slot %, that is 1 slot, is unowned\n", &[first]);
@@ -63,7 +63,7 @@ fn put_unowned(out: &mut [u8], at: usize, first: u64, last: u64) -> usize
 
 // ---- a listing
 
-// Adds the line of the slots from one up to another, if there are any: nobody's.
+// Adds the line of the unowned slots from one up to the next that is owned, if there are any.
 fn put_gap(out: &mut [u8], at: usize, margin: &[u8], from: u64, next: u64) -> usize
     requires { ⌜ next < 65536 ⌝ }
     ensures { λ r. ⌜ record { bytes = now (out .exit); end = r } ≡ puts (record { bytes = now (out .entry); end = at }) (gap (now (margin .entry)) from next) ⌝ }
@@ -75,7 +75,7 @@ fn put_gap(out: &mut [u8], at: usize, margin: &[u8], from: u64, next: u64) -> us
     put_unowned(out, end, from, next - 1)
 }
 
-// Adds a listing's lines.
+// Adds the lines of a listing, read from the list that it was written to, each with a margin in front.
 pub fn put_listing(out: &mut [u8], at: usize, margin: &[u8], list: &[u16]) -> usize
     ensures { λ r. ⌜ record { bytes = now (out .exit); end = r } ≡ puts (record { bytes = now (out .entry); end = at }) (spoken (now (margin .entry)) (rangesOf (now (list .entry)))) ⌝ }
 {

@@ -2,7 +2,8 @@
 use mathlib.Core.Path.{_≡_, refl, sym, _∙_}
 use mathlib.Core.Bool.{Bool, true, false, cond}
 use mathlib.Core.List.{List, [], _∷_, _++_, append-nil, append-assoc}
-use Prim.Native.Nat.{ℕ, zero, suc, _+_, _-_, _/_, _≤_, _<_}
+use Prim.Native.Nat.{ℕ, zero, suc, _+_, _-_, _/_, _^_, _≤_, _<_}
+use native.Mathlib.Nat.{pow-suc}
 use native.Mathlib.Omega.{arith}
 use native.Mathlib.Numerals.{add-one}
 use lib.Dec.{ltb}
@@ -92,7 +93,21 @@ width-within (suc limit) n = go (ltb n 10) (width-within limit (n / 10))
     go true h = omega arith
     go false h = omega arith
 
--- 20 bytes have room for all of them
+width-below : (limit k n : ℕ) → n < 10 ^ suc k → width limit n ≤ suc k
+unfolding width
+width-below zero k n h = omega arith
+width-below (suc limit) zero n h = let g : n < 10 = omega (arith, pow-suc 10 0) in rw (lt-ltb n 10 g) (omega arith)
+width-below (suc limit) (suc k) n h = go (ltb n 10) (width-below limit k (n / 10) (omega (arith, pow-suc 10 (suc k))))
+  where
+    go : (t : Bool) → width limit (n / 10) ≤ suc k → cond t 1 (suc (width limit (n / 10))) ≤ suc (suc k)
+    go true h = omega arith
+    go false h = omega arith
+
+-- a number below 10 to the k, k above 0, has at most k of them; any has at most 20, so that 20 bytes have room for all
+pub few-digits : (k n : ℕ) → n < 10 ^ suc k → length (decimal n) ≤ suc k
+unfolding decimal
+few-digits k n h = omega (arith, digit-count (width 19 n) n, width-below 19 k n h)
+
 pub at-most-20 : (n : ℕ) → length (decimal n) ≤ 20
 unfolding decimal
 at-most-20 n = omega (arith, digit-count (width 19 n) n, width-within 19 n)

@@ -1,3 +1,4 @@
 pub mod Commas
 pub mod Filled
+pub mod Lengths
 pub mod Examples

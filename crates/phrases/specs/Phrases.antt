@@ -20,11 +20,12 @@ groups n = allOf (ltb 0 n ∷ eqb (n % 3) 0 ∷ [])
 abbrev pub withComma : ℕ → ℕ → List ℕ
 withComma digit behind = cond (groups behind) (digit ∷ comma ∷ []) (digit ∷ [])
 
+-- digits in groups of three from the end
 unfoldable pub commas : List ℕ → List ℕ
 commas [] = []
 commas (digit ∷ digits) = withComma digit (length digits) ++ commas digits
 
--- a 64-bit number in decimal, with a comma before every third digit from the end: 16383 as 16,383
+-- a 64-bit number in decimal, in such groups: 16383 as 16,383
 unfoldable pub grouped : ℕ → List ℕ
 grouped n = commas (decimal n)
 
@@ -37,11 +38,11 @@ percent = 0x25
 abbrev pub meant : ℕ → List ℕ → List ℕ
 meant byte numbers = cond (eqb byte percent) (grouped (getD numbers 0 0)) (byte ∷ [])
 
--- the numbers for the bytes behind it
-abbrev pub left : ℕ → List ℕ → List ℕ
-left byte numbers = cond (eqb byte percent) (drop 1 numbers) numbers
+-- the numbers that are left for the bytes behind it
+abbrev pub unread : ℕ → List ℕ → List ℕ
+unread byte numbers = cond (eqb byte percent) (drop 1 numbers) numbers
 
--- a text, and the numbers in it
+-- a text with numbers in it
 unfoldable pub filled : List ℕ → List ℕ → List ℕ
 filled [] numbers = []
-filled (byte ∷ text) numbers = meant byte numbers ++ filled text (left byte numbers)
+filled (byte ∷ text) numbers = meant byte numbers ++ filled text (unread byte numbers)

@@ -20,6 +20,7 @@ fn put_digit(out: &mut [u8], at: usize, digit: u8, behind: usize) -> usize
     end
 }
 
+// Adds digits in groups of three from the end.
 fn put_digits(out: &mut [u8], at: usize, digits: &[u8]) -> usize
     ensures { λ r. ⌜ record { bytes = now (out .exit); end = r } ≡ puts (record { bytes = now (out .entry); end = at }) (commas (now (digits .entry))) ⌝ }
 {
@@ -33,7 +34,7 @@ fn put_digits(out: &mut [u8], at: usize, digits: &[u8]) -> usize
     end
 }
 
-// Adds a number with its digits in groups.
+// Adds a number as people read it. It has at most 20 digits.
 pub fn put_grouped(out: &mut [u8], at: usize, number: u64) -> usize
     ensures { λ r. ⌜ record { bytes = now (out .exit); end = r } ≡ puts (record { bytes = now (out .entry); end = at }) (grouped number) ⌝ }
 {
@@ -44,6 +45,7 @@ pub fn put_grouped(out: &mut [u8], at: usize, number: u64) -> usize
 
 // ---- texts
 
+// The number at a place; 0 past the last one.
 fn number_at(numbers: &[u64], k: usize) -> u64
     ensures { λ r. ⌜ r ≡ getD (now (numbers .entry)) k 0 ⌝ }
 {
@@ -53,7 +55,7 @@ fn number_at(numbers: &[u64], k: usize) -> u64
     0
 }
 
-// Adds a text with the next number for each %.
+// Adds a text, with the next number for each % in it.
 pub fn put_filled(out: &mut [u8], at: usize, text: &[u8], numbers: &[u64]) -> usize
     ensures { λ r. ⌜ record { bytes = now (out .exit); end = r } ≡ puts (record { bytes = now (out .entry); end = at }) (filled (now (text .entry)) (now (numbers .entry))) ⌝ }
 {

@@ -1,7 +1,7 @@
 // The last line below a listing in words: how many slots each node owns, and how many nobody.
 ghost use mathlib.Core.Path.{_≡_};
 ghost use Rattle.lines.specs.Texts.{Text, puts};
-ghost use Rattle.totals.specs.Totals.{owned, unowned, share, shares, rest, totals};
+ghost use Rattle.totals.specs.Totals.{owned, ownerless, share, shares, remainder, totals};
 
 // ---- the numbers
 
@@ -22,9 +22,9 @@ fn owned(slots: &[u16], k: u16) -> u64
     count
 }
 
-// How many are no number of the roster.
-fn unowned(slots: &[u16], size: u16) -> u64
-    ensures { λ r. ⌜ r ≡ unowned size (now (slots .entry)) ⌝ }
+// How many are no number of the roster, and so nobody's.
+fn ownerless(slots: &[u16], size: u16) -> u64
+    ensures { λ r. ⌜ r ≡ ownerless size (now (slots .entry)) ⌝ }
 {
     let mut count: u64 = 0;
     let mut s: usize = 0;
@@ -69,8 +69,8 @@ fn put_shares(out: &mut [u8], at: usize, slots: &[u16], size: u16) -> usize
 }
 
 // Adds how many slots nobody owns.
-fn put_rest(out: &mut [u8], at: usize, left: u64) -> usize
-    ensures { λ r. ⌜ record { bytes = now (out .exit); end = r } ≡ puts (record { bytes = now (out .entry); end = at }) (rest left) ⌝ }
+fn put_remainder(out: &mut [u8], at: usize, left: u64) -> usize
+    ensures { λ r. ⌜ record { bytes = now (out .exit); end = r } ≡ puts (record { bytes = now (out .entry); end = at }) (remainder left) ⌝ }
 {
     if left == 0 {
         return lines::put_text(out, at, b"no slot is unowned\n");
@@ -87,5 +87,5 @@ pub fn put_totals(out: &mut [u8], at: usize, slots: &[u16], size: u16) -> usize
 {
     let a = lines::put_text(out, at, b"in all: ");
     let b = put_shares(out, a, slots, size);
-    put_rest(out, b, unowned(slots, size))
+    put_remainder(out, b, ownerless(slots, size))
 }

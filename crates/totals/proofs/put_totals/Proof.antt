@@ -13,7 +13,7 @@ returns c =
     let count = rest .before in
     let shares = count .before .before .before .before in
     let text = shares .before .before .before .before in
-    rw (← count .unowned .ensures) (then _ _ _ (then _ _ _ (text .put-text .ensures) (shares .put-shares .ensures)) (rest .put-rest .ensures))
+    rw (← count .ownerless .ensures) (then _ _ _ (then _ _ _ (text .put-text .ensures) (shares .put-shares .ensures)) (rest .put-remainder .ensures))
 
 pub put-totals-spec : {M : Type 1} → statement M
 put-totals-spec =

@@ -1,4 +1,4 @@
--- `totals::unowned`: what was counted, and what the rest comes to.
+-- `totals::ownerless`: what was counted, and what the rest comes to.
 use mathlib.Core.Path.{_≡_, sym, ap, _∙_}
 use mathlib.Core.Bool.{not}
 use Prim.Native.Nat.{_+_, _-_, _≤_}
@@ -8,13 +8,13 @@ use lib.Dec.{ltb}
 use borrow.Author.Tests.{lt-ltb, le-ltb}
 use Rattle.tables.specs.Lists.{countFrom}
 use Rattle.tables.proofs.Walks.{kept, count-hit, count-miss}
-use Rattle.totals.specs.Totals.{unowned}
+use Rattle.totals.specs.Totals.{ownerless}
 use borrow.Author.Needs.{needs}
-use Rattle.totals.proofs.unowned.Statement.{statement}
-use Rattle.totals.proofs.unowned.Tie as tie
+use Rattle.totals.proofs.ownerless.Statement.{statement}
+use Rattle.totals.proofs.ownerless.Tie as tie
 
 abbrev Inv-loop : tie.InvT-loop
-Inv-loop slots size count₀ s₀ count s = (count ≤ s) × (s ≤ length slots) × (unowned size slots ≡ count + countFrom (λ s o. not (ltb o size)) s (drop s slots))
+Inv-loop slots size count₀ s₀ count s = (count ≤ s) × (s ≤ length slots) × (ownerless size slots ≡ count + countFrom (λ s o. not (ltb o size)) s (drop s slots))
 
 abbrev μ-loop : tie.MeasureT-loop
 μ-loop slots size count₀ s₀ count s = length slots - s
@@ -36,8 +36,8 @@ returns : tie.Need-returns Inv-loop μ-loop
 unfolding countFrom
 returns c = sym (c .before .loop .inv .2 ∙ rw (drop-of-length-le _ (c .loop-test .left)) (omega arith))
 
-pub unowned-spec : {M : Type 1} → statement M
-unowned-spec =
+pub ownerless-spec : {M : Type 1} → statement M
+ownerless-spec =
     tie.close
     (tie.spec Inv-loop μ-loop loop-holds (λ c. search needs) (λ c. search needs) (λ c. search needs) (λ c. search needs)
     (λ c. search needs) loop-again (λ c. search needs) (λ c. search needs) loop-again-2 returns)
