@@ -1,6 +1,7 @@
 // A listing in words, as somebody reads it out on the phone.
 ghost use mathlib.Core.Path.{_≡_};
-ghost use Prim.Native.Nat.{_<_};
+ghost use Prim.Native.Nat.{_*_, _<_};
+ghost use lib.ListN.{take};
 ghost use Rattle.lines.specs.Texts.{Text, puts};
 ghost use Rattle.listing.specs.Listing.{range};
 ghost use Rattle.aloud.specs.Aloud.{span, ownedLine, unownedLine, gap, spoken, rangesOf};
@@ -62,6 +63,17 @@ fn put_unowned(out: &mut [u8], at: usize, first: u64, last: u64) -> usize
 }
 
 // ---- a listing
+
+// The front of a list, with so many ranges in it; all of a list that has fewer.
+pub fn front(list: &[u16], count: usize) -> &[u16]
+    ensures { λ r. ⌜ now r ≡ take (3 * count) (now (list .entry)) ⌝ }
+{
+    if count <= list.len() / 3 {
+        let end = 3 * count;
+        return &list[..end];
+    }
+    list
+}
 
 // Adds the line of the unowned slots from one up to the next that is owned, if there are any.
 fn put_gap(out: &mut [u8], at: usize, margin: &[u8], from: u64, next: u64) -> usize

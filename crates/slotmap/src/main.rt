@@ -2,7 +2,6 @@
 // argument is the roster's size. A fault is told on standard error, with what was expected.
 ghost use mathlib.Core.Path.{_≡_};
 ghost use mathlib.Core.Bool.{cond};
-ghost use Prim.Native.Nat.{_*_};
 ghost use lib.ListN.{take};
 ghost use Rattle.words.specs.Numbers.{value, between};
 ghost use Rattle.lines.specs.Texts.{Text, puts};
@@ -166,23 +165,12 @@ fn take(buf: &mut [u8]) -> Input {
     Input::TooLong
 }
 
-// The first ranges of a list, so many of them.
-fn ranges(list: &[u16], count: usize) -> &[u16]
-    ensures { λ r. ⌜ now r ≡ take (3 * count) (now (list .entry)) ⌝ }
-{
-    if count <= list.len() / 3 {
-        let end = 3 * count;
-        return &list[..end];
-    }
-    list
-}
-
 // What is said of a table, from the front of a buffer on. The list has room for its ranges.
 fn put_table(slots: &[u16; SLOTS], size: u16, list: &mut [u16; LIST], out: &mut [u8]) -> usize
     ensures { λ r. ⌜ record { bytes = now (out .exit); end = r } ≡ puts (record { bytes = now (out .entry); end = 0 }) (inWords size (now (slots .entry))) ⌝ }
 {
     let count = listing::list_whole(slots, size, list);
-    let end = aloud::put_listing(out, 0, b"", ranges(list, count));
+    let end = aloud::put_listing(out, 0, b"", aloud::front(list, count));
     totals::put_totals(out, end, slots, size)
 }
 

@@ -16,8 +16,8 @@ use Rattle.slotmap.proofs.put_table.Statement.{statement}
 use Rattle.slotmap.proofs.put_table.Tie as tie
 
 -- so many ranges of a list that they were written to
-front : (rs : List Range) (was list : List ℕ) (n : ℕ) → n ≡ length rs → list ≡ laid rs was → rangesOf (take (3 * n) list) ≡ rs
-front rs was list n e is =
+read-back : (rs : List Range) (was list : List ℕ) (n : ℕ) → n ≡ length rs → list ≡ laid rs was → rangesOf (take (3 * n) list) ≡ rs
+read-back rs was list n e is =
     ap rangesOf (ap (λ (l : List ℕ). take (3 * n) l) is ∙ take-at (flat rs) (drop (3 * length rs) was) (3 * n) (three-a-range rs ∙ ap (λ (k : ℕ). 3 * k) (sym e)))
     ∙ reads-back rs
 
@@ -27,8 +27,8 @@ list-whole-requires c κs = search needs
 slice-aggregate-put-listing : tie.Need-slice-aggregate-put-listing
 slice-aggregate-put-listing c = search needs
 
-ranges-requires : tie.Need-ranges-requires
-ranges-requires c κs = search needs
+front-requires : tie.Need-front-requires
+front-requires c κs = search needs
 
 put-listing-requires : tie.Need-put-listing-requires
 put-listing-requires c κs = search needs
@@ -46,7 +46,7 @@ returns c =
     let l = p .before .before .before .before .before .before in
     let a = l .before .before .before .args in
     let rs = listing (a .size) (a .slots .now) in
-    let e = ap rangesOf (p .before .ranges .ensures) ∙ front rs (a .list .now) _ _ (l .list-whole .ensures .0) (l .list-whole .ensures .1) in
+    let e = ap rangesOf (p .before .front .ensures) ∙ read-back rs (a .list .now) _ _ (l .list-whole .ensures .0) (l .list-whole .ensures .1) in
     then _ _ _ (p .put-listing .ensures ∙ ap (λ (qs : List Range). puts (record { bytes = a .out .now; end = 0 }) (spoken [] qs)) e) (c .before .before .put-totals .ensures)
 
 pub put-table-spec : {M : Type 1} → statement M
@@ -55,7 +55,7 @@ put-table-spec =
     (tie.spec
     list-whole-requires
     slice-aggregate-put-listing
-    ranges-requires
+    front-requires
     put-listing-requires
     put-totals-requires
     same-length
