@@ -10,6 +10,7 @@ are lost, come twice, come late (with the time at which they come, or with the o
 real node's name. Some come by a serial bridge, in pieces that are cut anywhere, with mangled bytes and lines that are too
 long. Some lines of the file do not fit. Masters without slots are there from the start, others lose their last slot or come to
 their first, and the tables differ from node to node: who may vote, and who counts, goes by the table of the node that looks.
+Tables are listed, rarely one with a range for each slot.
 
 With --votes most lines are vote requests, each at one of the limits of the voter that gets it, and few come by the bridge.
 
@@ -404,6 +405,29 @@ def key(t):
     return t.put(b"key %d %s %s" % (node.me, name, rest.encode()))
 
 
+def ranges(t):
+    """A node's table is listed, with room for every table, for about as many ranges as there are, or for few. Rarely the table is
+    striped before, a range for each slot, and one owner's afterwards."""
+    r, node = t.random, t.node()
+    if r.random() < 0.95:
+        return listed(t, node)
+    whole = f"slots 0-16383 of {r.randrange(node.size)} for {node.me}"
+    config = max(node.config) + 1
+    t.put(whole)
+    t.frame(node.me, "01" + byte(t.other(node)) + "0000" + wide(max(config, node.current)) + wide(config) + wide(t.time(node)), range(r.randrange(2), 16384, 2))
+    listed(t, node)
+    t.put(whole)
+    return listed(t, node)
+
+
+def listed(t, node):
+    r = t.random
+    needed = 3 * sum(owner is not None for _, _, owner in node.stretches())
+    near = max(0, needed + r.choice((-3, -1, -1, 0, 0, 1, 3)))
+    room = r.choice(("", "", near, near, r.randrange(21), r.choice((0, 49151, 49152, 49153, 65535))))
+    t.put(f"ranges {node.me} {room}".rstrip())
+
+
 def entries(t):
     """What the old code writes: slots and report times."""
     r, node = t.random, t.node()
@@ -461,6 +485,7 @@ def bad(t):
         "roster": "roster 3", "replica": "replica 1 of 0", "timeout": "timeout 0 1000", "slots": "slots 5-9 of 0 for all", "report": "report 0 0 0 5",
         "frame": "frame 0 07000000000000000000 claims 5 7-9", "piece": "piece 0 07/", "open": "open 0 5", "migrate": "migrate 0 5 to 1", "import": "import 0 5 from 1",
         "unmark": "unmark 0 5", "key": "key 0 foo absent asking", "hexkey": "hexkey 0 666f6f present asking",
+        "ranges": "ranges 0 12",
     }[word].split()
     place = r.randrange(1, len(good))
     how = r.randrange(6)
@@ -537,7 +562,7 @@ def begin(t, sizes):
     """The roster and its first slots. The masters are some of the nodes, among them some without slots."""
     r = t.random
     if r.random() < 0.3:
-        t.put(r.choice(("open 0 0", "slots 0-9 of 0 for all", "replica 1 of 0", "key 0 foo absent", "roster 0", "roster 17", "frame 0 zz")))
+        t.put(r.choice(("open 0 0", "slots 0-9 of 0 for all", "replica 1 of 0", "key 0 foo absent", "ranges 0", "roster 0", "roster 17", "frame 0 zz")))
     size = r.choice(sizes)
     t.put(f"roster {size}")
     while t.run.nodes is None:
@@ -562,11 +587,11 @@ def generate(seed, count, votes):
     t = Tape(seed, *((0.01, 0.01) if votes else (0.15, 0.06)))
     begin(t, (5, 6, 6, 7, 8, 9, 12) if votes else (1, 2, 3, 4, 5, 5, 5, 6, 6, 7, 8, 9, 12, 16))
     plain = [heartbeat] * 14 + [report] * 8 + [fail] * 3 + [probe] * 14 + [tick] * 14 + [request] * 8 + [ack] * 10 + [forged] * 3
-    plain += [opening] * 6 + [mark] * 8 + [key] * 12 + [entries] * 4 + [bad] * 6 + [failover] * 6
+    plain += [opening] * 6 + [mark] * 8 + [key] * 12 + [ranges] * 3 + [entries] * 4 + [bad] * 6 + [failover] * 6
     plain += [bridge] * 3 + [long_line] + [silence] * 3 + [first_or_last] * 2 + [vote] * 3
     if votes:
         plain = [vote] * 60 + [heartbeat] * 4 + [forged] * 2 + [silence] * 2 + [first_or_last] * 4 + [entries] * 2 + [tick] * 2
-        plain += [opening] * 2 + [ack] * 3 + [failover] + [bad]
+        plain += [opening] * 2 + [ack] * 3 + [failover] + [bad] + [ranges]
     while len(t.lines) < count:
         t.random.choice(plain)(t)
         t.deliver_late()

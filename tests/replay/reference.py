@@ -7,8 +7,8 @@ Each file is a run, and has the line `run FILE` before it and an empty line betw
 is named on standard error alone. Without a file, standard input is the one run, with no line before it.
 
 Not written from the Rattle code. The frames' rules come from tests/node/reference.py; what that node never meets (elections
-of its own, marks, redirections, other rosters, a feed in pieces) and the run's format stand here. Bad lines, calls and summary come out in the
-order of the file, so a difference shows at the line that made it.
+of its own, marks, redirections, listings, other rosters, a feed in pieces) and the run's format stand here. Bad lines, calls and
+summary come out in the order of the file, so a difference shows at the line that made it.
 """
 import binascii
 import importlib.util
@@ -67,6 +67,7 @@ NAMES = {
     34: "voter not in the set",
     35: "too late",
     36: "heard already",
+    40: "the list is too short",
 }
 
 LONGEST = 4200  # characters of a line, of a run's file as of a feed
@@ -172,12 +173,31 @@ class Member(node01.Node):
             return f"ASK {slot} {peer}" if side == "migrating" and not present else "serve"
         return "serve" if side == "importing" and asking else f"MOVED {slot} {self.owner[slot]}"
 
+    def stretches(self):
+        """The whole table: first slot, last slot, and their owner, or None. Those that have an owner are the ranges of document
+        02, [1]; an entry that is no node's number is unowned, whatever the number is."""
+        found = []
+        for s in range(16384):
+            owner = self.owner[s] if self.owned(s) else None
+            if found and found[-1][2] == owner:
+                found[-1][1] = s
+            else:
+                found.append([s, s, owner])
+        return found
+
 
 def slot_of(key):
     start = key.find(b"{")
     end = key.find(b"}", start + 1)
     hashed = key[start + 1 : end] if start >= 0 and end > start + 1 else key
     return binascii.crc_hqx(hashed, 0) % 16384
+
+
+def read_out(first, last, owner):
+    """A stretch of a table as one says it on the phone: numbers grouped, one slot or several, and whose they are."""
+    if first == last:
+        return f"slot {first:,}, that is 1 slot, " + ("is unowned" if owner is None else f"belongs to node {owner}")
+    return f"slots {first:,} to {last:,}, that is {last - first + 1:,} slots, " + ("are unowned" if owner is None else f"belong to node {owner}")
 
 
 # ---- words: each test gives a word's value, or None where the word does not fit
@@ -217,7 +237,7 @@ def hex_bytes(word):
 
 
 NODE = number(0, 255)
-SLOT = OWNER = number(0, 65535)
+SLOT = OWNER = ROOM = number(0, 65535)
 TIME = number(0, 10**18)
 PRESENT = either("present", "absent")
 MOST_WORDS = 64
@@ -237,6 +257,7 @@ FORMS = {
     b"unmark": ("unmark NODE SLOT", [NODE, SLOT], []),
     b"key": ("key NODE KEY present|absent [asking]", [NODE, any_word, PRESENT], [either("asking")]),
     b"hexkey": ("hexkey NODE DIGITS present|absent [asking]", [NODE, hex_bytes, PRESENT], [either("asking")]),
+    b"ranges": ("ranges NODE [ROOM]", [NODE], [ROOM]),
 }
 
 
@@ -349,11 +370,22 @@ class Run:
                 return f"{answer} {NAMES[answer]}", []
             voters = " ".join(str(k) for k in sorted(node.election["voters"])) or "none"
             return f"{answer} {NAMES[answer]}", [f"election opened for epoch {node.current}, voters {voters}"]
+        if name == "ranges":
+            return self.listed(node, *values[1:])
         if name == "unmark":
             answer = node.unmark(values[1])
         else:
             answer = node.mark(values[1], "migrating" if name == "migrate" else "importing", values[3])
         return f"{answer} {NAMES[answer]}", []
+
+    @staticmethod
+    def listed(node, room=49152):
+        """Document 02, [1]: the list that is lent takes three numbers a range, else the answer is 40; below a 0 the whole table."""
+        stretches = node.stretches()
+        ranges = sum(owner is not None for _, _, owner in stretches)
+        if room < 3 * ranges:
+            return f"40 {NAMES[40]}, ranges {ranges}", []
+        return f"0 listed, ranges {ranges}", [read_out(*x) for x in stretches]
 
     def fed(self, node, ended):
         """What a call of the feed comes to: the line is answered at its newline, and used up whatever the answer is."""

@@ -1,5 +1,7 @@
 // What a line of `replay`'s file does to a node of the run (docs/REPLAY.md), by its form: the roster's lines and what the old code
-// writes into the tables, frames and pieces of a feed, openings, marks, keys, and the node's line of the summary.
+// writes into the tables, frames and pieces of a feed, openings, marks, keys, listings, and the node's line of the summary.
+ghost use Prim.Native.Nat.{_≤_};
+ghost use lib.ListN.{length};
 use answers::Answer;
 use calls::Call;
 use feed::Fed;
@@ -190,6 +192,26 @@ fn do_other(seat: Seat, slots: &[u16], line: &[u8], call: Call) -> Done {
     )
 }
 
+// How much of a list is lent: all of it, or the numbers that there is said to be room for, which are said as one more.
+fn lent(list: &[u16], said: u64) -> usize
+    ensures { λ r. ⌜ r ≤ length (now (list .entry)) ⌝ }
+{
+    if said == 0 {
+        return list.len();
+    }
+    if said > list.len() as u64 {
+        return list.len();
+    }
+    said as usize - 1
+}
+
+// Its slot table is listed, into the list's front.
+fn do_ranges(seat: Seat, slots: &[u16], list: &mut [u16], call: Call) -> Done {
+    let room = lent(list, call.numbers[2]);
+    let answer = ranges::ranges(seat.node, slots, &mut list[..room]);
+    answered(seat, answer, 0)
+}
+
 // A node at the end, and how many slots it owns.
 fn last_seen(seat: Seat, slots: &[u16], k: usize) -> Done {
     let known = seats::own(seat.node);
@@ -199,11 +221,12 @@ fn last_seen(seat: Seat, slots: &[u16], k: usize) -> Done {
     done
 }
 
-// What a line does to node k, whose tables are lent.
+// What a line does to node k, whose tables are lent, and a list for the ranges of its slots.
 pub fn act(
     seat: Seat,
     slots: &mut [u16],
     reports: &mut [u64],
+    list: &mut [u16],
     k: usize,
     line: &[u8],
     call: Call,
@@ -217,6 +240,9 @@ pub fn act(
     }
     if call.form == runs::SUMMARY {
         return last_seen(seat, slots, k);
+    }
+    if call.form == calls::RANGES {
+        return do_ranges(seat, slots, list, call);
     }
     if call.form > calls::FRAME {
         return do_other(seat, slots, line, call);

@@ -8,8 +8,9 @@ use words::Fit;
 // The forms of a line, a row of 56 bytes each. First what stands at each place, by a letter; the form's name stands at
 // place 0, and the last letter goes for all places from there on. Then the form as it is shown, up to a ~.
 //   z SIZE     N a node of the roster     M such a node, another than at place 1     a such a node, or `all`
-//   n a node's number     o a slot or an owner     t TIME     T a timeout     r a range     R a range, or nothing more
-//   w any word     W any word, or nothing more     h a key in hexadecimal     p `present` or `absent`     . nothing more
+//   n a node's number     o a slot or an owner     O ROOM, or nothing more     t TIME     T a timeout
+//   r a range     R a range, or nothing more     w any word     W any word, or nothing more     h a key in hexadecimal
+//   p `present` or `absent`     . nothing more
 //   0 to 5 the words `of`, `for`, `to`, `from`, `claims` or nothing more, `asking` or nothing more
 const FORMS: [u8; SIZE] = *b"\
     -z......roster SIZE~                                    \
@@ -24,11 +25,12 @@ const FORMS: [u8; SIZE] = *b"\
     -No3n...import NODE SLOT from PEER~                     \
     -No.....unmark NODE SLOT~                               \
     -Nwp5...key NODE KEY present|absent [asking]~           \
-    -Nhp5...hexkey NODE DIGITS present|absent [asking]~     ";
+    -Nhp5...hexkey NODE DIGITS present|absent [asking]~     \
+    -NO.....ranges NODE [ROOM]~                             ";
 
 const WIDTH: usize = 56;
 
-const SIZE: usize = 728;
+const SIZE: usize = 784;
 
 // The forms' rows. From FRAME on they are calls; the others write a roster or its tables.
 pub const ROSTER: u8 = 0;
@@ -57,8 +59,10 @@ pub const KEY: u8 = 11;
 
 pub const HEXKEY: u8 = 12;
 
+pub const RANGES: u8 = 13;
+
 // One more than the last form's row: the first word is no form's name.
-const COUNT: u8 = 13;
+const COUNT: u8 = 14;
 
 // Nothing but blanks and a comment.
 pub const SILENT: u8 = 254;
@@ -77,7 +81,7 @@ pub struct Call {
     pub form: u8,
     // Which word does not fit, counted from 1; 0 if all do.
     pub wrong: u8,
-    // The number that stands at each place, from 0; 1 for `present` and for `asking`.
+    // The number that stands at each place, from 0; 1 for `present` and for `asking`; ROOM as one more, so that 0 is none.
     pub numbers: [u64; 8],
 }
 
@@ -176,6 +180,12 @@ fn master(word: &[u8], node: u64) -> Fit {
     found
 }
 
+// How many numbers a list has room for, as one more.
+fn room(word: &[u8]) -> Fit {
+    let found = words::number(word, b'o');
+    fitted(found.right, words::kept(found.value))
+}
+
 fn is_hex(word: &[u8]) -> bool {
     if hex::all_digits(word) {
         return word.len() % 2 == 0;
@@ -188,6 +198,7 @@ fn fitting(word: &[u8], kind: u8, node: u64) -> Fit {
     match kind {
         b'.'..=b'5' => fitted(literal(word, kind), 1),
         b'M' => master(word, node),
+        b'O' => room(word),
         b'R' | b'r' => fitted(words::is_range(word), 0),
         b'a' => whose(word),
         b'h' => fitted(is_hex(word), 0),
@@ -200,7 +211,7 @@ fn fitting(word: &[u8], kind: u8, node: u64) -> Fit {
 // The line may end before a place of that kind.
 fn may_end(kind: u8) -> bool {
     match kind {
-        b'.' | b'4' | b'5' | b'R' | b'W' => true,
+        b'.' | b'4' | b'5' | b'O' | b'R' | b'W' => true,
         _ => false,
     }
 }

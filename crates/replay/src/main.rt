@@ -29,8 +29,12 @@ const ALL_REPORTS: usize = ROOM * REPORTS;
 // Input is read in pieces of up to this length.
 const PIECE: usize = 65536;
 
-// What is told is written when it has come to FULL bytes; the account of a line has at most some 3,000.
-const TEXT: usize = 65536;
+// Numbers of the list that ranges are written to: three for each slot are enough for every table.
+const LIST: usize = 3 * SLOTS;
+
+// What is told is written when it has come to FULL bytes. The account of a line has at most some 3,000, but a listing has up to
+// 16,384 lines of some 50 each.
+const TEXT: usize = 1114112;
 
 const FULL: usize = 57344;
 
@@ -74,6 +78,23 @@ fn telling(count: u64, k: usize, before: Node, done: Done, form: u8) -> Told {
     }
 }
 
+// A list's front, with so many ranges in it. A listing's answer never says more than there are.
+fn front(list: &[u16], count: usize) -> &[u16] {
+    if count > list.len() / 3 {
+        return list;
+    }
+    let end = 3 * count;
+    &list[..end]
+}
+
+// A listing, below its answer.
+fn put_listing(out: &mut [u8], at: usize, list: &[u16], answer: Answer) -> usize {
+    match answer {
+        Answer::Listed(count) => aloud::put_listing(out, at, b"  ", front(list, count)),
+        _ => at,
+    }
+}
+
 // The node after a line, and the run.
 struct Turn {
     seat: Seat,
@@ -85,6 +106,7 @@ fn take_turn(
     seat: Seat,
     slots: &mut [u16],
     reports: &mut [u64],
+    list: &mut [u16],
     out: &mut [u8],
     k: usize,
     source: Source,
@@ -101,13 +123,16 @@ fn take_turn(
         seat,
         &mut slots[s..s + SLOTS],
         &mut reports[r..r + REPORTS],
+        list,
         k,
         sources::characters(&bytes, kept.length),
         call,
         run.handed,
     );
     let told = telling(source.count, k, seat.node, done, call.form);
-    let at = tellings::put_told(out, run.at, told);
+    let answer = done.answer;
+    let end = tellings::put_told(out, run.at, told);
+    let at = put_listing(out, end, list, answer);
     let after = done.seat;
     Turn {
         seat: after,
@@ -144,11 +169,11 @@ fn fewer(turns: u64, source: Source) -> u64
     turns - 1
 }
 
-// A run, and its summary. Its nodes and their tables stand here, and each line takes out those that it is about.
-fn play(begin: Source, buf: &mut [u8]) {
+// The lines of a run, and its summary. The nodes and their tables stand here, and each line takes out those that it is about.
+// The list is lent to each as it is: what is read of it was written by the same line.
+fn play_lines(begin: Source, buf: &mut [u8], list: &mut [u16], out: &mut [u8]) {
     let mut slots = [tables::UNOWNED; ALL_SLOTS];
     let mut reports = [0u64; ALL_REPORTS];
-    let mut out = [0u8; TEXT];
     let mut seats = [seats::newcomer(0, 0); ROOM];
     let mut run = runs::nobody();
     let mut source = begin;
@@ -156,7 +181,7 @@ fn play(begin: Source, buf: &mut [u8]) {
     while turns > 0 {
         source = sources::next_line(buf, source, run.handed);
         turns = fewer(turns, source);
-        let heard = runs::hear(call_of(source), source.count, run, &mut out);
+        let heard = runs::hear(call_of(source), source.count, run, out);
         let call = heard.call;
         run = heard.run;
         let last = heard.last;
@@ -167,7 +192,8 @@ fn play(begin: Source, buf: &mut [u8]) {
                 here,
                 &mut slots,
                 &mut reports,
-                &mut out,
+                list,
+                out,
                 k,
                 source,
                 call,
@@ -178,11 +204,19 @@ fn play(begin: Source, buf: &mut [u8]) {
             run = turn.run;
             k += 1;
         }
-        run.at = lines::drained(&out, run.at, FULL);
+        run.at = lines::drained(out, run.at, FULL);
     }
     let wins = run.wins;
-    let end = tellings::put_wins(&mut out, run.at, &wins, run.won);
-    lines::flush(&out, end);
+    let end = tellings::put_wins(out, run.at, &wins, run.won);
+    lines::flush(out, end);
+}
+
+// A run. The list, and the room for what is told, stand here: in the function with the loop every step of its proof would
+// compute with their lengths.
+fn play(begin: Source, buf: &mut [u8]) {
+    let mut list = [0u16; LIST];
+    let mut out = [0u8; TEXT];
+    play_lines(begin, buf, &mut list, &mut out);
 }
 
 // ---- files

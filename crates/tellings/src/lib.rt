@@ -17,86 +17,88 @@ pub struct Note {
 }
 
 // Below this number a text is an answer's.
-const NOTES: u8 = 37;
+const NOTES: u8 = 41;
 
 // The other texts: a call's line,
-const HEAD: u8 = 37;
+const HEAD: u8 = 41;
 
-const EPOCHS: u8 = 38;
+const EPOCHS: u8 = 42;
 
-const HEARD: u8 = 39;
+const HEARD: u8 = 43;
 
-const HEARD_STALE: u8 = 40;
+const HEARD_STALE: u8 = 44;
 
-const DOWN: u8 = 41;
+const LISTED: u8 = 45;
 
-const SERVE: u8 = 42;
+const DOWN: u8 = 46;
 
-const ASK: u8 = 43;
+const SERVE: u8 = 47;
 
-const MOVED: u8 = 44;
+const ASK: u8 = 48;
 
-const KEPT: u8 = 45;
+const MOVED: u8 = 49;
 
-const LONG: u8 = 46;
+const KEPT: u8 = 50;
+
+const LONG: u8 = 51;
 
 // what people look for, below it, a flag's text by the flag,
-const FLAG: u8 = 47;
+const FLAG: u8 = 52;
 
-const OPENED: u8 = 50;
+const OPENED: u8 = 55;
 
-const GRANTED: u8 = 51;
+const GRANTED: u8 = 56;
 
-const WON: u8 = 52;
+const WON: u8 = 57;
 
-const BOUND: u8 = 53;
+const BOUND: u8 = 58;
 
-const REBOUND: u8 = 54;
+const REBOUND: u8 = 59;
 
-const STALE: u8 = 55;
+const STALE: u8 = 60;
 
 // a line that does not fit or cannot be done,
-pub const BAD: u8 = 56;
+pub const BAD: u8 = 61;
 
-pub const NO_FORM: u8 = 57;
+pub const NO_FORM: u8 = 62;
 
-pub const UNFIT: u8 = 58;
+pub const UNFIT: u8 = 63;
 
-pub const NO_ROSTER: u8 = 59;
+pub const NO_ROSTER: u8 = 64;
 
-pub const STANDS: u8 = 60;
+pub const STANDS: u8 = 65;
 
-pub const BEGUN: u8 = 61;
+pub const BEGUN: u8 = 66;
 
-pub const NO_NODE: u8 = 62;
+pub const NO_NODE: u8 = 67;
 
-pub const TOO_LONG: u8 = 63;
+pub const TOO_LONG: u8 = 68;
 
 // the summary, a flagged node's text by the flag,
-pub const SUMMARY: u8 = 64;
+pub const SUMMARY: u8 = 69;
 
-const MASTER: u8 = 65;
+const MASTER: u8 = 70;
 
-const REPLICA: u8 = 66;
+const REPLICA: u8 = 71;
 
-const OWN: u8 = 67;
+const OWN: u8 = 72;
 
-const FLAGGED: u8 = 68;
+const FLAGGED: u8 = 73;
 
-const WINNER: u8 = 71;
+const WINNER: u8 = 76;
 
-const AGAIN: u8 = 72;
+const AGAIN: u8 = 77;
 
-const NO_WINS: u8 = 73;
+const NO_WINS: u8 = 78;
 
 // and what stands in lists.
-const MEMBER: u8 = 74;
+const MEMBER: u8 = 79;
 
-const NONE: u8 = 75;
+const NONE: u8 = 80;
 
-pub const QUOTE: u8 = 76;
+pub const QUOTE: u8 = 81;
 
-pub const END: u8 = 77;
+pub const END: u8 = 82;
 
 // ---- texts
 
@@ -140,7 +142,7 @@ fn put_text(out: &mut [u8], at: usize, texts: &[u8], note: Note) -> usize {
 }
 
 // All texts: the answers' first, then the others. Each goes up to a ~.
-const TEXTS: [u8; 1581] = *b"done~\
+const TEXTS: [u8; 1635] = *b"done~\
     a table has the wrong length~\
     not a frame~\
     no such node~\
@@ -177,10 +179,15 @@ const TEXTS: [u8; 1581] = *b"done~\
     voter not in the set~\
     too late~\
     heard already~\
+    ~\
+    ~\
+    ~\
+    the list is too short, ranges %~\
     % node %: ~\
     ; currentEpoch %, lastVoteEpoch %\n~\
     0 heard, bound %, rebound %~\
     0 heard, bound %, rebound %, stale at slot %~\
+    0 listed, ranges %~\
     down~\
     serve~\
     ASK % %~\
@@ -267,6 +274,8 @@ pub fn of_answer(answer: Answer) -> Note {
         Answer::Heard(tally) => of_tally(tally),
         Answer::Outdated(slot) => text(row, slot as u64, 0),
         Answer::Won(passed) => text(row, passed as u64, 0),
+        Answer::Listed(ranges) => text(LISTED, ranges as u64, 0),
+        Answer::ListShort(ranges) => text(row, ranges as u64, 0),
         _ => text(row, 0, 0),
     }
 }

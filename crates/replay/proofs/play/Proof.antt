@@ -1,32 +1,25 @@
--- `replay::play` ends, and its tables and buffers keep their lengths.
-use mathlib.Core.Path.{_≡_, refl}
-use Prim.Native.Nat.{ℕ, _-_}
-use lib.ListN.{length, length-replicate}
+-- `replay::play` lends the list and the room for its text whole.
+use mathlib.Core.Path.{sym}
+use Prim.Native.Nat.{ℕ}
+use lib.ListN.{length-replicate}
 use borrow.Author.Needs.{needs}
 use Rattle.replay.proofs.play.Statement.{statement}
 use Rattle.replay.proofs.play.Tie as tie
 
-abbrev Inv-loop2 : tie.InvT-loop2
-Inv-loop2 buf slots₀ reports₀ out₀ seats₀ run₀ source turns call last k₀ slots reports out seats run k = (length slots ≡ 262144) × (length reports ≡ 65536) × (length out ≡ 65536) × (length seats ≡ 16)
+slice-aggregate-play-lines : tie.Need-slice-aggregate-play-lines
+slice-aggregate-play-lines c = sym (length-replicate {A = ℕ} 49152 0)
 
-abbrev μ-loop2 : tie.MeasureT-loop2
-μ-loop2 buf slots₀ reports₀ out₀ seats₀ run₀ source turns call last k₀ slots reports out seats run k = last - k
+slice-aggregate-play-lines-2 : tie.Need-slice-aggregate-play-lines-2
+slice-aggregate-play-lines-2 c = sym (length-replicate {A = ℕ} 1114112 0)
 
-abbrev Inv-loop : tie.InvT-loop
-Inv-loop buf₀ slots₀ reports₀ out₀ seats₀ run₀ source₀ turns₀ buf slots reports out seats run source turns = (length buf ≡ length buf₀) × (length slots ≡ 262144) × (length reports ≡ 65536) × (length out ≡ 65536) × (length seats ≡ 16)
+play-lines-requires : tie.Need-play-lines-requires
+play-lines-requires c κs = search needs
 
-abbrev μ-loop : tie.MeasureT-loop
-μ-loop buf₀ slots₀ reports₀ out₀ seats₀ run₀ source₀ turns₀ buf slots reports out seats run source turns = turns
+same-length : tie.Need-same-length
+same-length c = c .before .before .before .before .play-lines .kept .1 .0
+
+returns : tie.Need-returns
+returns c = search needs
 
 pub play-spec : {M : Type 1} → statement M
-play-spec =
-    tie.close
-    (tie.spec Inv-loop2 μ-loop2 Inv-loop μ-loop (λ c κs. search needs) (λ c κs. search needs)
-    (λ c. (refl, length-replicate {A = ℕ} 262144 65535, length-replicate {A = ℕ} 65536 0, length-replicate {A = ℕ} 65536 0, refl))
-    (λ c κs. search needs) (λ c κs. search needs) (λ c κs. search needs) (λ c. search needs) (λ c κs. search needs)
-    (λ c. search needs) (λ c. search needs) (λ c. search needs) (λ c. search needs) (λ c. search needs)
-    (λ c. search needs) (λ c κs. search needs) (λ c. search needs) (λ c. search needs)
-    (λ c. search needs) (λ c. search needs) (λ c. (search needs, search needs, search needs, search needs))
-    (λ c. search needs) (λ c κs. search needs) (λ c. search needs)
-    (λ c. (search needs, search needs, search needs, search needs, search needs)) (λ c. search needs)
-    (λ c κs. search needs) (λ c. search needs) (λ c κs. search needs) (λ c. search needs) (λ c. search needs))
+play-spec = tie.close (tie.spec slice-aggregate-play-lines slice-aggregate-play-lines-2 play-lines-requires same-length returns)

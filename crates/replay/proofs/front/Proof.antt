@@ -1,0 +1,12 @@
+-- `replay::front` stays within the list.
+use mathlib.Core.Path.{sym}
+use native.Mathlib.Omega.{arith}
+use lib.Seq.{length-take-le}
+use borrow.Author.Needs.{needs}
+use Rattle.replay.proofs.front.Statement.{statement}
+use Rattle.replay.proofs.front.Tie as tie
+
+pub front-spec : {M : Type 1} → statement M
+front-spec =
+    tie.close
+    (tie.spec (λ c. search needs) (λ c. search needs) (λ c. sym (length-take-le _ _ (omega (arith, c .before .if1 .left)))) (λ c. search needs))
