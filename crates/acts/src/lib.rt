@@ -217,7 +217,7 @@ fn last_seen(seat: Seat, slots: &[u16], k: usize) -> Done {
     let known = seats::own(seat.node);
     let role = known.role;
     let mut done = finished(seat, tellings::of_role(k as u64, role));
-    done.slots = seats::owned(slots, seats::short(k as u64));
+    done.slots = totals::owned(slots, seats::short(k as u64));
     done
 }
 

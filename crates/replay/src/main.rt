@@ -78,19 +78,10 @@ fn telling(count: u64, k: usize, before: Node, done: Done, form: u8) -> Told {
     }
 }
 
-// A list's front, with so many ranges in it. A listing's answer never says more than there are.
-fn front(list: &[u16], count: usize) -> &[u16] {
-    if count > list.len() / 3 {
-        return list;
-    }
-    let end = 3 * count;
-    &list[..end]
-}
-
 // A listing, below its answer.
 fn put_listing(out: &mut [u8], at: usize, list: &[u16], answer: Answer) -> usize {
     match answer {
-        Answer::Listed(count) => aloud::put_listing(out, at, b"  ", front(list, count)),
+        Answer::Listed(count) => aloud::put_listing(out, at, b"  ", aloud::front(list, count)),
         _ => at,
     }
 }

@@ -1,9 +1,6 @@
 -- The nodes of a run: how one starts, what a roster's line makes of it, and what is told of it.
 use Prim.Native.Nat.{ℕ}
-use mathlib.Core.List.{List}
 use lib.ListN.{replicate}
-use lib.Dec.{eqb}
-use Rattle.tables.specs.Lists.{countAt}
 use Rattle.tables.specs.Sizes.{nodeRoom}
 use Rattle.state.specs.Changes.{withRole, onRecord}
 use Rattle.state.specs.declared.Node.{Node}
@@ -33,7 +30,3 @@ flagNumber (Fail t) = 2
 
 abbrev pub flagOf : Record → ℕ
 flagOf known = flagNumber (known .flag)
-
--- how many slots of a table are node k's
-abbrev pub owned : List ℕ → ℕ → ℕ
-owned slots k = countAt (λ s owner. eqb owner k) slots

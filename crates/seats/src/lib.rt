@@ -6,7 +6,7 @@ ghost use Prim.Native.Nat.{_%_};
 ghost use Rattle.tables.specs.Sizes.{nodeRoom};
 ghost use Rattle.scraps.specs.Scraps.{short, partOf};
 ghost use Rattle.state.specs.Node.{recordAt};
-ghost use Rattle.seats.specs.Seats.{master, follows, waits, flagNumber, flagOf, owned};
+ghost use Rattle.seats.specs.Seats.{master, follows, waits, flagNumber, flagOf};
 use scraps::Kept;
 use state::Flag;
 use state::Node;
@@ -112,21 +112,4 @@ pub fn flags(node: Node) -> [u8; tables::NODES]
         k += 1;
     }
     flags
-}
-
-// How many entries of a table are a node's.
-pub fn owned(slots: &[u16], k: u16) -> u64
-    ensures { λ r. ⌜ r ≡ owned (now (slots .entry)) k ⌝ }
-{
-    let mut count: u64 = 0;
-    let mut s: usize = 0;
-    while s < slots.len() {
-        if slots[s] == k {
-            count += 1;
-            s += 1;
-            continue;
-        }
-        s += 1;
-    }
-    count
 }

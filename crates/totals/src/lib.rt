@@ -6,7 +6,7 @@ ghost use Rattle.totals.specs.Totals.{owned, ownerless, share, shares, r
 // ---- the numbers
 
 // How many entries of a table are a node's.
-fn owned(slots: &[u16], k: u16) -> u64
+pub fn owned(slots: &[u16], k: u16) -> u64
     ensures { λ r. ⌜ r ≡ owned (now (slots .entry)) k ⌝ }
 {
     let mut count: u64 = 0;
