@@ -1,5 +1,5 @@
 -- A listing's lines are short: one of a single slot has at most 60 bytes, one of more slots at most 120.
-use mathlib.Core.Path.{_≡_, refl}
+use mathlib.Core.Path.{_≡_, refl, subst}
 use mathlib.Core.Bool.{Bool, true, false, cond}
 use mathlib.Core.List.{List, [], _∷_, _++_}
 use Prim.Native.Nat.{ℕ, suc, _+_, _-_, _*_, _≤_, _<_}
@@ -11,7 +11,8 @@ use borrow.Author.Tests.{eqb-false, ltb-true}
 use Rattle.tables.specs.Sizes.{slotCount}
 use Rattle.lines.specs.Texts.{ascii}
 use Rattle.phrases.proofs.Lengths.{short}
-use Rattle.listing.specs.Listing.{Range, range, goesOn, joined, rangesFrom, listing}
+use Rattle.listing.specs.Listing.{Range, listing}
+use Rattle.listing.proofs.Fits as fit
 use Rattle.aloud.specs.Aloud.{span, ownedLine, unownedLine, gap, spokenFrom}
 use Rattle.aloud.specs.Room.{RoomEnough}
 
@@ -87,30 +88,12 @@ lines-room margin next (r ∷ rs) h =
 
 -- ---- the ranges of a table
 
-module _ (size end : ℕ) (small : Fits size) where
-  -- from a slot before
-  before : (s : ℕ) (rs : List Range) → Orderly (suc s) end rs → Orderly s end rs
-  before s [] h = omega arith
-  before s (r ∷ rs) h = (omega (arith, h .0), h .1, h .2, h .3, h .4)
-
-  with-slot : (s owner : ℕ) (rs : List Range) → owner < size → Orderly (suc s) end rs → Orderly s end (joined s owner rs)
-  unfolding joined
-  with-slot s owner [] o h = (omega arith, omega arith, omega arith, omega arith, h)
-  with-slot s owner (r ∷ rs) o h = by (goesOn s owner r)
-    where
-      by : (t : Bool) → Orderly s end (cond t (range s (r .last) owner ∷ rs) (range s s owner ∷ r ∷ rs))
-      by true = (omega arith, omega (arith, h .0, h .1), h .2, omega arith, h .4)
-      by false = (omega arith, omega arith, omega (arith, h .0, h .1, h .2), omega arith, h)
-
-  orderly : (s : ℕ) (entries : List ℕ) → s + length entries ≡ end → Orderly s end (rangesFrom size s entries)
-  unfolding rangesFrom
-  orderly s [] e = omega arith
-  orderly s (owner ∷ entries) e = by (ltb owner size) refl (orderly (suc s) entries (omega arith))
-    where
-      by : (t : Bool) → ltb owner size ≡ t → Orderly (suc s) end (rangesFrom size (suc s) entries)
-          → Orderly s end (cond t (joined s owner (rangesFrom size (suc s) entries)) (rangesFrom size (suc s) entries))
-      by true q h = with-slot s owner (rangesFrom size (suc s) entries) (ltb-true owner size q) h
-      by false q h = before s (rangesFrom size (suc s) entries) h
+orderly : (entry : ℕ → ℕ) (size end next : ℕ) (rs : List Range) → Fits size → next ≤ end → fit.Fits entry size next end rs → Orderly next end rs
+orderly entry size end next [] small h f = h
+orderly entry size end next (r ∷ rs) small h f =
+    let x = f .0 in
+    (x .low, x .filled, x .high, omega (arith, x .inRoster), orderly entry size end (suc (r .last)) rs small (x .high) (f .1))
 
 pub room-enough : (margin : List ℕ) (size : ℕ) (slots : List ℕ) → RoomEnough margin size slots
-room-enough margin size slots e h = lines-room margin 0 (listing size slots) (orderly size slotCount h 0 slots (omega arith))
+room-enough margin size slots e h =
+    lines-room margin 0 (listing size slots) (subst (λ (end : ℕ). Orderly 0 end (listing size slots)) e (orderly (fit.entryAt size slots) size (length slots) 0 (listing size slots) h (omega arith) (fit.fits size slots)))

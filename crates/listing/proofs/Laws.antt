@@ -61,7 +61,7 @@ module _ (size : ℕ) (slots : List ℕ) where
     unowned = λ s h o i a. omega (arith, o, whose s i a, range-at i (a .0) .inRoster);
     neighbours = λ s h e i j a b. one (suc s) i j (next s i h e a) b;
     ascending = in-order;
-    filled = λ i h. range-at i h .filled;
+    notEmpty = λ i h. range-at i h .filled;
     inside = λ i h. range-at i h .high;
   }
 

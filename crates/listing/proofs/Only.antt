@@ -40,7 +40,7 @@ module _ (size : ℕ) (slots : List ℕ) (rs : List Range) (l : ListsRanges size
     where
       nowhere : (p : ℕ) → StandsIn size slots rs s p → (t : Bool) → ltb p k ≡ t → (u : Bool) → ltb k p ≡ u → ⊥
       nowhere p x true q u r = omega (arith, x .2, before p (ltb-true p k q))
-      nowhere p x false q true r = omega (arith, x .0, x .1, ltb-true k p r, l .ascending k p (ltb-true k p r) (x .0), l .filled k (omega (arith, x .0, ltb-true k p r)), b (omega (arith, x .0, ltb-true k p r)))
+      nowhere p x false q true r = omega (arith, x .0, x .1, ltb-true k p r, l .ascending k p (ltb-true k p r) (x .0), l .notEmpty k (omega (arith, x .0, ltb-true k p r)), b (omega (arith, x .0, ltb-true k p r)))
       nowhere p x false q false r =
           let e : p ≡ k = omega (arith, ltb-false p k q, ltb-false k p r) in
           let z : at k .first ≤ s = rw (sym e) (x .1) in
@@ -54,7 +54,7 @@ module _ (size : ℕ) (slots : List ℕ) (rs : List Range) (l : ListsRanges size
   ends : (i : ℕ) → i < length rs → suc (at i .last) < length slots → entry (suc (at i .last)) ≡ at i .owner → ⊥
   ends i h b e =
       let last = at i .last in
-      let here : StandsIn size slots rs last i = (h, l .filled i h, omega arith) in
+      let here : StandsIn size slots rs last i = (h, l .notEmpty i h, omega arith) in
       let w = within i last here in
       let x = l .owned (suc last) b (let z : entry (suc last) < size = rw (e, sym (w .0)) (w .1) in z) in
       let p = l .neighbours last b (w .0 ∙ sym e) i (x .place) here (x .stands) in
@@ -69,19 +69,19 @@ module _ (size : ℕ) (slots : List ℕ) (rs : List Range) (l : ListsRanges size
       let h : k < length rs = omega arith in
       subst (λ (xs : List Range). Fits entry size lo (length slots) xs) (sym (drop-cons rs k (range 0 0 0) h)) (
         record {
-          gap = λ s a b. between k lo before s a (omega (arith, b, l .filled k h, l .inside k h)) (λ g. b);
+          gap = λ s a b. between k lo before s a (omega (arith, b, l .notEmpty k h, l .inside k h)) (λ g. b);
           low = low h;
-          filled = l .filled k h;
+          filled = l .notEmpty k h;
           high = l .inside k h;
           whole = λ s a b. within k s (h, a, b) .0;
-          inRoster = let w = within k (at k .last) (h, l .filled k h, omega arith) in rw (sym (w .0)) (w .1);
+          inRoster = let w = within k (at k .last) (h, l .notEmpty k h, omega arith) in rw (sym (w .0)) (w .1);
           apart = ends k h;
         },
         from d (suc k) (suc (at k .last)) (omega arith) (λ j g. further j g (ltb j k) refl) (λ g. l .ascending k (suc k) (omega arith) g),
       )
     where
       further : (j : ℕ) → j < suc k → (t : Bool) → ltb j k ≡ t → at j .last < suc (at k .last)
-      further j g true q = omega (arith, before j (ltb-true j k q), low (omega arith), l .filled k (omega arith))
+      further j g true q = omega (arith, before j (ltb-true j k q), low (omega arith), l .notEmpty k (omega arith))
       further j g false q = let z : j ≡ k = omega (arith, ltb-false j k q) in rw z (omega arith)
 
   pub lists-fit : Fits entry size 0 (length slots) rs

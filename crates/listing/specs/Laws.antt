@@ -39,7 +39,7 @@ module _ (size : ℕ) (slots : List ℕ) (rs : List Range) where
     -- in ascending order: a range ends before the next one begins
     pub ascending : (i j : ℕ) → i < j → j < length rs → at i .last < at j .first
     -- no range is empty
-    pub filled : (i : ℕ) → i < length rs → at i .first ≤ at i .last
+    pub notEmpty : (i : ℕ) → i < length rs → at i .first ≤ at i .last
     -- none goes past the table
     pub inside : (i : ℕ) → i < length rs → at i .last < length slots
 

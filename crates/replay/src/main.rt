@@ -32,8 +32,8 @@ const PIECE: usize = 65536;
 // Numbers of the list that ranges are written to: three for each slot are enough for every table.
 const LIST: usize = 3 * SLOTS;
 
-// What is told is written when it has come to FULL bytes. The account of a line has at most some 3,000, but a listing has up to
-// 16,384 lines of some 50 each.
+// What is told is written when it has come to FULL bytes. The account of a line has at most some 3,000, and below it a listing at
+// most 62 for each slot, by a law of `aloud`.
 const TEXT: usize = 1114112;
 
 const FULL: usize = 57344;

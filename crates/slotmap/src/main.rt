@@ -18,7 +18,7 @@ const LIST: usize = 3 * SLOTS;
 // Input has at most 1,048,576 bytes; there is room for one more, which is too many.
 const ROOM: usize = 1048577;
 
-// Room for what is printed: at most 48 bytes for each slot, and the totals.
+// Room for what is printed: at most 60 bytes for each slot, 40 for each node and 40 more, by the laws of `aloud` and `totals`.
 const TEXT: usize = 1048576;
 
 // Room for a fault's line, and for a word that is read as a number.
