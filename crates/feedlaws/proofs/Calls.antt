@@ -156,6 +156,7 @@ alike-after a b t c x =
       list = λ ms. ap (drop 1) (x .list (m ∷ ms));
       state = λ ms. x .state (m ∷ ms);
       reply = λ ms. x .reply (m ∷ ms);
+      listing = λ ms. x .listing (m ∷ ms);
     }
 
 -- a frame, and a line

@@ -4,6 +4,7 @@ ghost use Prim.Native.Nat.{_+_, _*_, _≤_, _<_};
 ghost use mathlib.Core.List.{_∷_, _++_};
 ghost use lib.ListN.{length, take, drop};
 ghost use lib.Dec.{ltb};
+ghost use Rattle.tables.specs.Sizes.{slotCount};
 ghost use Rattle.listing.specs.Listing.{listing, laid, lists, ListAfter};
 ghost use Rattle.listing.specs.Stretches.{alike, isEnd, one};
 use answers::Answer;
@@ -32,7 +33,7 @@ fn owned(owner: u16, size: u16) -> u16
 
 // How many ranges there are: as many as slots that end one. The last slot has no next one.
 fn count(slots: &[u16], size: u16) -> usize
-    requires { ⌜ length (now slots) ≡ 16384 ⌝ }
+    requires { ⌜ length (now slots) ≡ slotCount ⌝ }
     ensures { λ r. ⌜ r ≡ length (listing size (now (slots .entry))) ⌝ }
 {
     let mut n: u16 = 0;
@@ -61,7 +62,7 @@ fn stretch_end(slots: &[u16], from: usize, owner: u16) -> usize
 
 // Writes a range's three numbers.
 fn put(list: &mut [u16], at: usize, first: usize, last: usize, owner: u16)
-    requires { ⌜ (at + 3 ≤ length (now list)) × (first < 16384) × (last < 16384) ⌝ }
+    requires { ⌜ (at + 3 ≤ length (now list)) × (first < slotCount) × (last < slotCount) ⌝ }
     ensures { λ _. ⌜ now (list .exit) ≡ take at (now (list .entry)) ++ first ∷ last ∷ owner ∷ drop (at + 3) (now (list .entry)) ⌝ }
 {
     list[at] = first as u16;
@@ -71,7 +72,7 @@ fn put(list: &mut [u16], at: usize, first: usize, last: usize, owner: u16)
 
 // Writes the ranges, stretch by stretch.
 fn write(slots: &[u16], size: u16, list: &mut [u16])
-    requires { ⌜ (length (now slots) ≡ 16384) × (3 * length (listing size (now slots)) ≤ length (now list)) ⌝ }
+    requires { ⌜ (length (now slots) ≡ slotCount) × (3 * length (listing size (now slots)) ≤ length (now list)) ⌝ }
     ensures { λ _. ⌜ now (list .exit) ≡ laid (listing size (now (slots .entry))) (now (list .entry)) ⌝ }
 {
     let mut s: usize = 0;
