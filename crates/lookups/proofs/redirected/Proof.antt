@@ -1,0 +1,42 @@
+-- `lookups::redirected` meets its contract.
+use borrow.Author.Tests.{eq-eqb, ne-eqb, le-leb, lt-leb}
+use borrow.Author.Needs.{needs}
+use Rattle.lookups.proofs.redirected.Statement.{statement}
+use Rattle.lookups.proofs.redirected.Tie as tie
+
+ends-requires : tie.Need-ends-requires
+ends-requires c κs = search needs
+
+returns : tie.Need-returns
+returns c = rw (c .ends .ensures, ne-eqb _ _ (c .before .if1 .taken))
+
+ends-requires-2 : tie.Need-ends-requires-2
+ends-requires-2 c κs = search needs
+
+returns-2 : tie.Need-returns-2
+returns-2 c = rw (c .ends2 .ensures, eq-eqb _ _ (c .before .before .if1 .left), le-leb _ _ (c .before .if2 .taken))
+
+ends-requires-3 : tie.Need-ends-requires-3
+ends-requires-3 c κs = search needs
+
+returns-3 : tie.Need-returns-3
+returns-3 c = rw (c .ends3 .ensures, eq-eqb _ _ (c .before .before .before .if1 .left), lt-leb _ _ (c .before .before .if2 .left), le-leb _ _ (c .before .if3 .taken))
+
+add-t12 : tie.Need-add-t12
+add-t12 c = search needs
+
+returns-4 : tie.Need-returns-4
+returns-4 c = rw (eq-eqb _ _ (c .before .before .if1 .left), lt-leb _ _ (c .before .if2 .left), lt-leb _ _ (c .if3 .left))
+
+pub redirected-spec : {M : Type 1} → statement M
+redirected-spec =
+    tie.close
+    (tie.spec
+    ends-requires
+    returns
+    ends-requires-2
+    returns-2
+    ends-requires-3
+    returns-3
+    add-t12
+    returns-4)
