@@ -42,14 +42,14 @@ abbrev pub firstAsked : (size entry : ℕ) → ℕ
 firstAsked size entry = cond (ltb entry size) entry 0
 
 -- by how many entries the map has, and the entry of the key's slot
-abbrev pub opening : (entries entry size : ℕ) → Key → Stage
-opening entries entry size key =
+abbrev pub firstStage : (entries entry size : ℕ) → Key → Stage
+firstStage entries entry size key =
     checked (λ (n : ℕ). Ended (Refused n)) (startChecks entries size key)
     (Asking (record { node = firstAsked size entry; asking = false; hops = 0 }))
 
 unfoldable pub started : List ℕ → (size household : ℕ) → Key → Lookup
 started map size household key =
-    record { household = household; key = key; stage = opening (length map) (entryAt map (slotOf key)) size key }
+    record { household = household; key = key; stage = firstStage (length map) (entryAt map (slotOf key)) size key }
 
 -- ---- a reply arrives
 

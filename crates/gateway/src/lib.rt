@@ -4,7 +4,7 @@ ghost use mathlib.Core.Path.{_≡_};
 ghost use lib.ListN.{length};
 ghost use Rattle.routing.specs.Replies.{reply};
 ghost use Rattle.lookups.specs.Keys.{slotOf};
-ghost use Rattle.gateway.specs.Gateway.{noRoster, firstAsked, entryAt, opening, started, turn, learn, taken, withAsking, asked};
+ghost use Rattle.gateway.specs.Gateway.{noRoster, firstAsked, entryAt, firstStage, started, turn, learn, taken, withAsking, asked};
 use lookups::End;
 use lookups::Key;
 use lookups::Learned;
@@ -40,8 +40,8 @@ fn first_asked(size: u16, entry: u16) -> u16
     0
 }
 
-fn opening(map: &[u16], size: u16, key: Key) -> Stage
-    ensures { λ r. ⌜ r ≡ opening (length (now (map .entry))) (entryAt (now (map .entry)) (slotOf key)) size key ⌝ }
+fn first_stage(map: &[u16], size: u16, key: Key) -> Stage
+    ensures { λ r. ⌜ r ≡ firstStage (length (now (map .entry))) (entryAt (now (map .entry)) (slotOf key)) size key ⌝ }
 {
     if map.len() != tables::SLOTS as usize {
         return Stage::Ended(End::Refused(1));
@@ -67,7 +67,7 @@ pub fn start(map: &[u16], size: u16, household: u64, key: Key) -> Lookup
     Lookup {
         household,
         key,
-        stage: opening(map, size, key),
+        stage: first_stage(map, size, key),
     }
 }
 

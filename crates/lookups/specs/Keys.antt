@@ -10,12 +10,12 @@ abbrev pub keyRoom : ℕ
 keyRoom = 512
 
 -- the front of a text; all of it where there is less
-abbrev pub partOf : ℕ → List ℕ → List ℕ
-partOf n text = take n text
+abbrev pub frontOf : ℕ → List ℕ → List ℕ
+frontOf n text = take n text
 
 -- the key itself
 abbrev pub keyBytes : Key → List ℕ
-keyBytes key = partOf (key .length) (key .bytes)
+keyBytes key = frontOf (key .length) (key .bytes)
 
 -- its slot
 abbrev pub slotOf : Key → ℕ

@@ -40,15 +40,15 @@ abbrev pub redirectChecks : (size s hops named node : ℕ) → List (Bool × End
 redirectChecks size s hops named node = (isBad size s named node, Bad) ∷ (leb mostHops hops, TooMany) ∷ []
 
 -- a redirection: else the node named is asked next
-abbrev pub followed : (size s hops named node : ℕ) → Bool → Learned → Turn
-followed size s hops named node asking learned =
+abbrev pub sentOn : (size s hops named node : ℕ) → Bool → Learned → Turn
+sentOn size s hops named node asking learned =
     checked ends (redirectChecks size s hops named node)
     (record { stage = Asking (record { node = node; asking = asking; hops = hops + 1 }); learned = learned })
 
 -- the reply to a question of a lookup on slot s, in a roster of that size
 unfoldable pub heard : (size s : ℕ) → Question → Reply → Turn
 heard size s q serve = ends (Served (q .node))
-heard size s q (moved named owner) = followed size s (q .hops) named owner false (Owner owner)
-heard size s q (ask named peer) = followed size s (q .hops) named peer true Nothing
+heard size s q (moved named owner) = sentOn size s (q .hops) named owner false (Owner owner)
+heard size s q (ask named peer) = sentOn size s (q .hops) named peer true Nothing
 heard size s q down = ends Down
 heard size s q (refused n) = ends (Declined n)

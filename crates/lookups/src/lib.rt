@@ -2,8 +2,8 @@
 ghost use mathlib.Core.Path.{_≡_};
 ghost use lib.ListN.{length};
 ghost use Rattle.routing.specs.Replies.{reply};
-ghost use Rattle.lookups.specs.Keys.{keyRoom, partOf, keyBytes, slotOf};
-ghost use Rattle.lookups.specs.Lookups.{turns, ends, at, followed, heard};
+ghost use Rattle.lookups.specs.Keys.{keyRoom, frontOf, keyBytes, slotOf};
+ghost use Rattle.lookups.specs.Lookups.{turns, ends, at, sentOn, heard};
 use routing::Redirect;
 
 // The longest key that a lookup carries.
@@ -70,7 +70,7 @@ pub struct Turn {
 
 // The front of a text; all of it where there is less.
 pub fn part(text: &[u8], length: usize) -> &[u8]
-    ensures { λ r. ⌜ now r ≡ partOf length (now (text .entry)) ⌝ }
+    ensures { λ r. ⌜ now r ≡ frontOf length (now (text .entry)) ⌝ }
 {
     if length > text.len() {
         return text;
@@ -80,7 +80,7 @@ pub fn part(text: &[u8], length: usize) -> &[u8]
 
 // The key that a text is: its bytes, as far as there is room, and its whole length.
 pub fn key_of(text: &[u8]) -> Key
-    ensures { λ r. ⌜ (keyBytes r ≡ partOf keyRoom (now (text .entry))) × (r .length ≡ length (now (text .entry))) ⌝ }
+    ensures { λ r. ⌜ (keyBytes r ≡ frontOf keyRoom (now (text .entry))) × (r .length ≡ length (now (text .entry))) ⌝ }
 {
     let front = part(text, ROOM);
     let mut bytes = [0u8; ROOM];
@@ -135,7 +135,7 @@ pub fn at(lookup: Lookup, stage: Stage) -> Lookup
 }
 
 // A redirection: bad, then a fifth, else followed.
-fn redirected(
+fn sent_on(
     size: u16,
     slot: u16,
     hops: u8,
@@ -144,7 +144,7 @@ fn redirected(
     asking: bool,
     learned: Learned,
 ) -> Turn
-    ensures { λ r. ⌜ r ≡ followed size slot hops named node asking learned ⌝ }
+    ensures { λ r. ⌜ r ≡ sentOn size slot hops named node asking learned ⌝ }
 {
     if named != slot {
         return ends(End::Bad);
@@ -175,7 +175,7 @@ pub fn heard(size: u16, slot: u16, question: Question, redirect: Redirect) -> Tu
         Redirect::Unsound => ends(End::Declined(7)),
         Redirect::Down => ends(End::Down),
         Redirect::Serve => ends(End::Served(question.node)),
-        Redirect::Ask { slot: named, peer } => redirected(
+        Redirect::Ask { slot: named, peer } => sent_on(
             size,
             slot,
             hops,
@@ -184,7 +184,7 @@ pub fn heard(size: u16, slot: u16, question: Question, redirect: Redirect) -> Tu
             true,
             Learned::Nothing,
         ),
-        Redirect::Moved { slot: named, owner } => redirected(
+        Redirect::Moved { slot: named, owner } => sent_on(
             size,
             slot,
             hops,

@@ -31,14 +31,14 @@ ends-requires-4 c κs = search needs
 enum-known-redirect : tie.Need-enum-known-redirect
 enum-known-redirect c = search needs
 
-redirected-requires : tie.Need-redirected-requires
-redirected-requires c κs = search needs
+sent-on-requires : tie.Need-sent-on-requires
+sent-on-requires c κs = search needs
 
 enum-known-redirect-2 : tie.Need-enum-known-redirect-2
 enum-known-redirect-2 c = search needs
 
-redirected-requires-2 : tie.Need-redirected-requires-2
-redirected-requires-2 c κs = search needs
+sent-on-requires-2 : tie.Need-sent-on-requires-2
+sent-on-requires-2 c κs = search needs
 
 returns : tie.Need-returns
 unfolding heard
@@ -58,11 +58,11 @@ returns-4 c = rw (c .before .enum-told4 .given .1) (c .ends4 .ensures)
 
 returns-5 : tie.Need-returns-5
 unfolding heard
-returns-5 c = rw (c .before .before .redirect .given .1) (c .redirected .ensures)
+returns-5 c = rw (c .before .before .redirect .given .1) (c .sent-on .ensures)
 
 returns-6 : tie.Need-returns-6
 unfolding heard
-returns-6 c = rw (c .before .before .redirect2 .given .1) (c .redirected2 .ensures)
+returns-6 c = rw (c .before .before .redirect2 .given .1) (c .sent-on2 .ensures)
 
 pub heard-spec : {M : Type 1} → statement M
 heard-spec =
@@ -77,9 +77,9 @@ heard-spec =
     enum-told-4
     ends-requires-4
     enum-known-redirect
-    redirected-requires
+    sent-on-requires
     enum-known-redirect-2
-    redirected-requires-2
+    sent-on-requires-2
     returns
     returns-2
     returns-3

@@ -1,8 +1,8 @@
--- `lookups::redirected` meets its contract.
+-- `lookups::sent_on` meets its contract.
 use borrow.Author.Tests.{eq-eqb, ne-eqb, le-leb, lt-leb}
 use borrow.Author.Needs.{needs}
-use Rattle.lookups.proofs.redirected.Statement.{statement}
-use Rattle.lookups.proofs.redirected.Tie as tie
+use Rattle.lookups.proofs.sent_on.Statement.{statement}
+use Rattle.lookups.proofs.sent_on.Tie as tie
 
 ends-requires : tie.Need-ends-requires
 ends-requires c κs = search needs
@@ -28,8 +28,8 @@ add-t12 c = search needs
 returns-4 : tie.Need-returns-4
 returns-4 c = rw (eq-eqb _ _ (c .before .before .if1 .left), lt-leb _ _ (c .before .if2 .left), lt-leb _ _ (c .if3 .left))
 
-pub redirected-spec : {M : Type 1} → statement M
-redirected-spec =
+pub sent-on-spec : {M : Type 1} → statement M
+sent-on-spec =
     tie.close
     (tie.spec
     ends-requires

@@ -1,11 +1,11 @@
--- `gateway::opening` meets its contract.
+-- `gateway::first_stage` meets its contract.
 use borrow.Author.Tests.{eq-eqb, ne-eqb, lt-ltb, le-ltb}
 use mathlib.Core.Path.{sym, _∙_}
 use Prim.Native.Nat.{_<_}
 use Rattle.slots.proofs.Slots.{key-slot-below}
 use borrow.Author.Needs.{needs}
-use Rattle.gateway.proofs.opening.Statement.{statement}
-use Rattle.gateway.proofs.opening.Tie as tie
+use Rattle.gateway.proofs.first_stage.Statement.{statement}
+use Rattle.gateway.proofs.first_stage.Tie as tie
 
 cast-if1 : tie.Need-cast-if1
 cast-if1 c = search needs
@@ -41,8 +41,8 @@ returns-4 : tie.Need-returns-4
 returns-4 c = let so = c .before .before in let e3 = so .before in let e2 = e3 .before .before in let n = e2 .before in
     rw (c .first-asked .ensures, eq-eqb _ _ (n .before .if1 .left), sym (n .no-roster .ensures) ∙ e2 .if2 .left, le-ltb _ _ (e3 .if3 .left), ← so .slot .ensures)
 
-pub opening-spec : {M : Type 1} → statement M
-opening-spec =
+pub first-stage-spec : {M : Type 1} → statement M
+first-stage-spec =
     tie.close
     (tie.spec
     cast-if1

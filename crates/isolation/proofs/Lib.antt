@@ -1,0 +1,6 @@
+pub mod Turns
+pub mod Replies
+pub mod Runs
+pub mod Isolation
+pub mod EveryRun
+pub mod Examples

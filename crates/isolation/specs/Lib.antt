@@ -1,0 +1,5 @@
+pub mod Runs
+pub mod Replies
+pub mod Isolation
+pub mod EveryRun
+pub mod Examples
