@@ -7,7 +7,7 @@ use lib.Dec.{eqb, ltb}
 use Rattle.tables.specs.Sizes.{slotCount, nodeRoom}
 use Rattle.tables.specs.Checks.{checked, anyOf}
 use Rattle.state.specs.declared.Node.{Node}
-use Rattle.routing.specs.Replies.{Reply, routed}
+use Rattle.routing.specs.Replies.{Reply, refused, down, serve, ask, moved, routed}
 use Rattle.lookups.specs.Keys.{keyRoom, keyBytes, slotOf}
 use Rattle.lookups.specs.Lookups.{turns, ends, at, heard}
 use Rattle.lookups.specs.declared.Key.{Key}
@@ -57,6 +57,14 @@ started map size household key =
 unfoldable pub turn : (entries size s : ℕ) → Stage → Reply → Turn
 turn entries size s (Ended end) r = turns (Ended end)
 turn entries size s (Asking q) r = checked (λ (n : ℕ). ends (Refused n)) (mapChecks entries size) (heard size s q r)
+
+-- the slot that a redirection names: the key's, if it is followed
+abbrev pub namedSlot : Reply → ℕ
+namedSlot (refused n) = 0
+namedSlot down = 0
+namedSlot serve = 0
+namedSlot (ask named peer) = named
+namedSlot (moved named owner) = named
 
 -- what was learned goes into the entry of that one slot
 abbrev pub learn : List ℕ → ℕ → Learned → List ℕ

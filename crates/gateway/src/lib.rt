@@ -4,7 +4,7 @@ ghost use mathlib.Core.Path.{_≡_};
 ghost use lib.ListN.{length};
 ghost use Rattle.routing.specs.Replies.{reply};
 ghost use Rattle.lookups.specs.Keys.{slotOf};
-ghost use Rattle.gateway.specs.Gateway.{noRoster, firstAsked, entryAt, firstStage, started, turn, learn, taken, withAsking, asked};
+ghost use Rattle.gateway.specs.Gateway.{noRoster, firstAsked, entryAt, firstStage, started, turn, namedSlot, learn, taken, withAsking, asked};
 use lookups::End;
 use lookups::Key;
 use lookups::Learned;
@@ -74,8 +74,8 @@ pub fn start(map: &[u16], size: u16, household: u64, key: Key) -> Lookup
 // ---- a reply arrives
 
 // What a reply does at a stage, with a map of so many entries.
-fn turn(entries: usize, size: u16, slot: u16, stage: Stage, redirect: Redirect) -> Turn
-    ensures { λ r. ⌜ r ≡ turn entries size slot stage (reply redirect) ⌝ }
+fn turn(entries: usize, size: u16, key: Key, stage: Stage, redirect: Redirect) -> Turn
+    ensures { λ r. ⌜ r ≡ turn entries size (slotOf key) stage (reply redirect) ⌝ }
 {
     match stage {
         Stage::Ended(_) => lookups::turns(stage),
@@ -86,8 +86,22 @@ fn turn(entries: usize, size: u16, slot: u16, stage: Stage, redirect: Redirect) 
             if no_roster(size) {
                 return lookups::ends(End::Refused(3));
             }
-            lookups::heard(size, slot, question, redirect)
+            lookups::heard(size, key, question, redirect)
         }
+    }
+}
+
+// The slot that a redirection names. One that is followed names the key's, so that need not be computed again.
+fn named(redirect: Redirect) -> u16
+    ensures { λ r. ⌜ r ≡ namedSlot (reply redirect) ⌝ }
+{
+    match redirect {
+        Redirect::WrongLength => 0,
+        Redirect::Unsound => 0,
+        Redirect::Down => 0,
+        Redirect::Serve => 0,
+        Redirect::Ask { slot, peer: _ } => slot,
+        Redirect::Moved { slot, owner: _ } => slot,
     }
 }
 
@@ -109,12 +123,12 @@ fn learn(map: &mut [u16], slot: u16, learned: Learned)
 pub fn take(lookup: Lookup, map: &mut [u16], size: u16, redirect: Redirect) -> Lookup
     ensures { λ r. ⌜ record { lookup = r; map = now (map .exit) } ≡ taken lookup (now (map .entry)) size (reply redirect) ⌝ }
 {
+    let key = lookup.key;
     let stage = lookup.stage;
-    let slot = lookups::slot(lookup.key);
-    let turn = turn(map.len(), size, slot, stage, redirect);
+    let turn = turn(map.len(), size, key, stage, redirect);
     let next = turn.stage;
     let learned = turn.learned;
-    learn(map, slot, learned);
+    learn(map, named(redirect), learned);
     lookups::at(lookup, next)
 }
 

@@ -134,18 +134,19 @@ pub fn at(lookup: Lookup, stage: Stage) -> Lookup
     }
 }
 
-// A redirection: bad, then a fifth, else followed.
+// A redirection: bad, then a fifth, else followed. The slot is computed here, where it is needed.
 fn sent_on(
     size: u16,
-    slot: u16,
+    key: Key,
     hops: u8,
     named: u16,
     node: u16,
     asking: bool,
     learned: Learned,
 ) -> Turn
-    ensures { λ r. ⌜ r ≡ sentOn size slot hops named node asking learned ⌝ }
+    ensures { λ r. ⌜ r ≡ sentOn size (slotOf key) hops named node asking learned ⌝ }
 {
+    let slot = slot(key);
     if named != slot {
         return ends(End::Bad);
     }
@@ -165,9 +166,9 @@ fn sent_on(
     }
 }
 
-// What the reply to a question does to a lookup on that slot.
-pub fn heard(size: u16, slot: u16, question: Question, redirect: Redirect) -> Turn
-    ensures { λ r. ⌜ r ≡ heard size slot question (reply redirect) ⌝ }
+// What the reply to a question does to a lookup of that key.
+pub fn heard(size: u16, key: Key, question: Question, redirect: Redirect) -> Turn
+    ensures { λ r. ⌜ r ≡ heard size (slotOf key) question (reply redirect) ⌝ }
 {
     let hops = question.hops;
     match redirect {
@@ -177,7 +178,7 @@ pub fn heard(size: u16, slot: u16, question: Question, redirect: Redirect) -> Tu
         Redirect::Serve => ends(End::Served(question.node)),
         Redirect::Ask { slot: named, peer } => sent_on(
             size,
-            slot,
+            key,
             hops,
             named,
             peer,
@@ -186,7 +187,7 @@ pub fn heard(size: u16, slot: u16, question: Question, redirect: Redirect) -> Tu
         ),
         Redirect::Moved { slot: named, owner } => sent_on(
             size,
-            slot,
+            key,
             hops,
             named,
             owner,

@@ -1,14 +1,18 @@
 -- `gateway::take` meets its contract: what each call gives, put together.
+use lib.ListN.{length}
+use Rattle.routing.specs.Replies.{reply}
+use Rattle.lookups.specs.Keys.{slotOf}
 use Rattle.gateway.specs.Gateway.{taken}
+use Rattle.gateway.proofs.Turns.{named-turn}
 use borrow.Author.Needs.{needs}
 use Rattle.gateway.proofs.take.Statement.{statement}
 use Rattle.gateway.proofs.take.Tie as tie
 
-slot-requires : tie.Need-slot-requires
-slot-requires c κs = search needs
-
 turn-requires : tie.Need-turn-requires
 turn-requires c κs = search needs
+
+named-requires : tie.Need-named-requires
+named-requires c κs = search needs
 
 learn-requires : tie.Need-learn-requires
 learn-requires c κs = search needs
@@ -21,9 +25,10 @@ same-length c = search needs
 
 returns : tie.Need-returns
 unfolding taken
-returns c = let l = c .before .before .before in let t = l .before .before in let s = t .before in
-    rw (c .at .ensures, l .learn .ensures, t .turn .ensures, s .slot .ensures)
+returns c = let l = c .before .before .before in let n = l .before in let t = n .before .before in let a = t .before .before .before .args in
+    rw (c .at .ensures, l .learn .ensures, n .named .ensures, t .turn .ensures, named-turn (a .map .now) (a .size) (slotOf (a .lookup .key)) (length (a .map .now)) (a .lookup .stage) (reply (a .redirect)))
 
 pub take-spec : {M : Type 1} → statement M
 take-spec =
-    tie.close (tie.spec slot-requires turn-requires learn-requires at-requires same-length returns)
+    tie.close
+    (tie.spec turn-requires named-requires learn-requires at-requires same-length returns)
