@@ -77,3 +77,57 @@ pub static VALUES: [u8; 256] = {
     }
     values
 };
+
+const fn crc_table() -> [u16; 256] {
+    let mut table = [0; 256];
+    let mut k = 0;
+    while k < 256 {
+        let mut crc = (k as u16) << 8;
+        let mut bit = 0;
+        while bit < 8 {
+            crc = if crc & 0x8000 != 0 { (crc << 1) ^ 0x1021 } else { crc << 1 };
+            bit += 1;
+        }
+        table[k] = crc;
+        k += 1;
+    }
+    table
+}
+
+static CRC_TABLE: [u16; 256] = crc_table();
+
+fn hashed(key: &[u8]) -> &[u8] {
+    if let Some(open) = key.iter().position(|&b| b == b'{') {
+        let rest = &key[open + 1..];
+        if let Some(close) = rest.iter().position(|&b| b == b'}') {
+            if close > 0 {
+                return &rest[..close];
+            }
+        }
+    }
+    key
+}
+
+/// A key's slot in ordinary Rust.
+pub fn key_slot(key: &[u8]) -> u16 {
+    hashed(key)
+        .iter()
+        .fold(0u16, |crc, &b| (crc << 8) ^ CRC_TABLE[((crc >> 8) ^ b as u16) as usize])
+        % 16384
+}
+
+/// Any bytes, braces among them more often than chance would have it.
+pub fn any_key(numbers: &mut Numbers, length: usize) -> Vec<u8> {
+    let braces = numbers.below(8);
+    (0..length)
+        .map(|_| match numbers.below(20) {
+            0 if braces > 1 => b'{',
+            1 if braces > 2 => b'}',
+            _ => numbers.next() as u8,
+        })
+        .collect()
+}
+
+pub fn letters(numbers: &mut Numbers, length: usize) -> Vec<u8> {
+    (0..length).map(|_| b'a' + numbers.below(26) as u8).collect()
+}
