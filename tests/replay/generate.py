@@ -10,7 +10,8 @@ are lost, come twice, come late (with the time at which they come, or with the o
 real node's name. Some come by a serial bridge, in pieces that are cut anywhere, with mangled bytes and lines that are too
 long. Some lines of the file do not fit. Masters without slots are there from the start, others lose their last slot or come to
 their first, and the tables differ from node to node: who may vote, and who counts, goes by the table of the node that looks.
-Tables are listed, rarely one with a range for each slot.
+Tables are listed, rarely one with a range for each slot. Households are looked up, over slots that are owned, unowned, moving or
+moved, and over tables that send the gateway round.
 
 With --votes most lines are vote requests, each at one of the limits of the voter that gets it, and few come by the bridge.
 
@@ -23,13 +24,13 @@ from pathlib import Path
 
 sys.dont_write_bytecode = True  # nothing is left behind in the repository
 sys.path.insert(0, str(Path(__file__).resolve().parent))
-from reference import FORMS, LONGEST, TOP, Run, bitmap, slot_of  # noqa: E402
+from reference import FORMS, LONGEST, LONGEST_KEY, TOP, Run, bitmap, slot_of  # noqa: E402
 
 TAGS = [b"foo", b"bar", b"{house12}:phone", b"{house12}:second", b"house41", b"123456789", b"a}b{c", b"foo{}{x}", b"foo{{bar}}zap"]
 ODD_NUMBERS = ["00", "007", "99", "100", "255", "256", "600000", "600001", "16383", "16384", "65535", "65536", "281474976710655"]
 ODD_NUMBERS += ["281474976710656", "999999999999999999", "1000000000000000000", "1000000000000000001", "0" * 30 + "5"]
 ODD_NUMBERS += ["9223372036854775808", "18446744073709551616", "18446744073709551621", "340282366920938463463374607431768211457"]
-ODD_WORDS = ODD_NUMBERS + ["", "-1", "+1", "1.5", "0x10", "1e3", "all", "of", "for", "present", "asking", "claims", "0-", "-5", "5-4", "3-3", "0-1-2", "x", "\x0b", "\x00"]
+ODD_WORDS = ODD_NUMBERS + ["", "-1", "+1", "1.5", "0x10", "1e3", "all", "of", "for", "present", "asking", "claims", "held", "0-", "-5", "5-4", "3-3", "0-1-2", "x", "\x0b", "\x00"]
 
 
 def byte(n):
@@ -428,6 +429,62 @@ def listed(t, node):
     t.put(f"ranges {node.me} {room}".rstrip())
 
 
+def lookups(t):
+    """Some households are looked up, one after the other. Now and then one slot is seen to before, and then they are on that slot."""
+    r = t.random
+    name = None
+    if r.random() < 0.4:
+        name = r.choice(TAGS)
+        r.choice((sent_on, sent_on, moving))(t, slot_of(name))
+    for _ in range(r.choice((1, 1, 2, 2, 4))):
+        lookup(t, name)
+
+
+def lookup(t, name=None):
+    """A lookup of a key with that tag, or of any. Some nodes have the key, in any order; rarely one that is not there has."""
+    r, size = t.random, len(t.nodes())
+    marked = [x for x in TAGS if any(slot_of(x) in n.marks for n in t.nodes())]
+    if name is None:
+        name = r.choice(TAGS if not marked or r.random() < 0.4 else marked)
+        if r.random() < 0.15:
+            name = bytes(r.choice(b"abc{}") for _ in range(r.randrange(1, 9)))
+    if r.random() < 0.06:
+        name = b"{%s}%s" % (name.strip(b"{}"), b"x" * LONGEST_KEY)
+        name = name[: r.choice((LONGEST_KEY - 1, LONGEST_KEY, LONGEST_KEY, LONGEST_KEY + 1, LONGEST_KEY + 1))] + b"x" * r.choice((0, 0, 0, 3000))
+    if r.random() < 0.05:
+        name += r.choice((b"\xe4", b"\xc3\xa4", b"\x0b", b"\x00", b"\x7f", b"\xff", b"/", b"~", b"%"))
+    held = [k for k in range(size) if r.random() < r.choice((0.1, 0.5, 0.9))] * r.choice((1, 1, 1, 1, 3))
+    r.shuffle(held)
+    if r.random() < 0.03:
+        held.insert(r.randrange(len(held) + 1), r.choice((size, 200, 255)))
+    household = r.choice((r.randrange(41_000), r.randrange(41_000), 12, r.choice((0, 2**32, 10**18 - 1, 10**18))))
+    t.put(b" ".join([b"lookup", b"%d" % household, name, b"held"] + [b"%d" % k for k in held]))
+
+
+def sent_on(t, slot):
+    """Some nodes' tables send on a lookup of a slot from one to the next: the last one owns it, knows no owner, or the first is next."""
+    r, size = t.random, len(t.nodes())
+    way = r.sample(range(size), min(size, r.choice((1, 2, 2, 3, 4, 5, 5, 6, 7))))
+    for k, owner in zip(way, way[1:] + [r.choice((way[0], way[-1], way[-1], 65535))]):
+        t.put(f"slots {slot} of {owner} for {k}")
+
+
+def moving(t, slot):
+    """A slot is on its way from one node to another: with both marks, or one of them, or with the owner written already."""
+    r, size = t.random, len(t.nodes())
+    if size < 2:
+        return
+    source, target = r.sample(range(size), 2)
+    t.put(f"slots {slot} of {source} for all")
+    if r.random() < 0.9:
+        t.put(f"import {target} {slot} from {source}")
+    if r.random() < 0.9:
+        t.put(f"migrate {source} {slot} to {target}")
+    lookup(t, next(x for x in TAGS if slot_of(x) == slot))
+    if r.random() < 0.3:
+        t.put(f"slots {slot} of {target} for {r.choice((source, target, 'all'))}")
+
+
 def entries(t):
     """What the old code writes: slots and report times."""
     r, node = t.random, t.node()
@@ -470,7 +527,7 @@ def bridge(t):
 def long_line(t):
     """A line of the file that is about as long as may be, or far longer."""
     r, node = t.random, t.node()
-    line = r.choice((b"# why", b"", b"open %d %d # " % (node.me, t.time(node)), b"piece %d 07" % node.me, b"key %d foo" % node.me, b"frame %d 0700" % node.me))
+    line = r.choice((b"# why", b"", b"open %d %d # " % (node.me, t.time(node)), b"piece %d 07" % node.me, b"key %d foo" % node.me, b"lookup 12 foo", b"frame %d 0700" % node.me))
     long = r.choice((LONGEST - 1, LONGEST, LONGEST, LONGEST + 1, LONGEST + 1, 2 * LONGEST, r.randrange(LONGEST, 150_000)))
     t.put_as_it_is(line + r.choice((b"0", b" ", b"a")) * (long - len(line)))
 
@@ -485,7 +542,7 @@ def bad(t):
         "roster": "roster 3", "replica": "replica 1 of 0", "timeout": "timeout 0 1000", "slots": "slots 5-9 of 0 for all", "report": "report 0 0 0 5",
         "frame": "frame 0 07000000000000000000 claims 5 7-9", "piece": "piece 0 07/", "open": "open 0 5", "migrate": "migrate 0 5 to 1", "import": "import 0 5 from 1",
         "unmark": "unmark 0 5", "key": "key 0 foo absent asking", "hexkey": "hexkey 0 666f6f present asking",
-        "ranges": "ranges 0 12",
+        "ranges": "ranges 0 12", "lookup": "lookup 12 foo held 0 0 0 0 0 0",
     }[word].split()
     place = r.randrange(1, len(good))
     how = r.randrange(6)
@@ -497,8 +554,8 @@ def bad(t):
         good.insert(place + 1, r.choice(ODD_WORDS))
     elif how == 4:
         good[place] = r.choice((good[place].upper(), good[place] + "#", str(t.random.randrange(20))))
-    elif word == "frame":
-        good += [str(k) for k in range(r.choice((58, 59, 60, 61, 62, 80)))]
+    elif word in ("frame", "lookup"):
+        good += [str(r.choice((0, 0, 0, k)) if word == "lookup" else k) for k in range(r.choice((53, 54, 55, 58, 59, 60, 61, 62, 80)))]
     return t.put(" ".join(good))
 
 
@@ -562,7 +619,7 @@ def begin(t, sizes):
     """The roster and its first slots. The masters are some of the nodes, among them some without slots."""
     r = t.random
     if r.random() < 0.3:
-        t.put(r.choice(("open 0 0", "slots 0-9 of 0 for all", "replica 1 of 0", "key 0 foo absent", "ranges 0", "roster 0", "roster 17", "frame 0 zz")))
+        t.put(r.choice(("open 0 0", "slots 0-9 of 0 for all", "replica 1 of 0", "key 0 foo absent", "ranges 0", "lookup 12 foo held 0", "roster 0", "roster 17", "frame 0 zz")))
     size = r.choice(sizes)
     t.put(f"roster {size}")
     while t.run.nodes is None:
@@ -588,10 +645,10 @@ def generate(seed, count, votes):
     begin(t, (5, 6, 6, 7, 8, 9, 12) if votes else (1, 2, 3, 4, 5, 5, 5, 6, 6, 7, 8, 9, 12, 16))
     plain = [heartbeat] * 14 + [report] * 8 + [fail] * 3 + [probe] * 14 + [tick] * 14 + [request] * 8 + [ack] * 10 + [forged] * 3
     plain += [opening] * 6 + [mark] * 8 + [key] * 12 + [ranges] * 3 + [entries] * 4 + [bad] * 6 + [failover] * 6
-    plain += [bridge] * 3 + [long_line] + [silence] * 3 + [first_or_last] * 2 + [vote] * 3
+    plain += [bridge] * 3 + [long_line] + [silence] * 3 + [first_or_last] * 2 + [vote] * 3 + [lookups] * 6
     if votes:
         plain = [vote] * 60 + [heartbeat] * 4 + [forged] * 2 + [silence] * 2 + [first_or_last] * 4 + [entries] * 2 + [tick] * 2
-        plain += [opening] * 2 + [ack] * 3 + [failover] + [bad] + [ranges]
+        plain += [opening] * 2 + [ack] * 3 + [failover] + [bad] + [ranges] + [lookups] * 3
     while len(t.lines) < count:
         t.random.choice(plain)(t)
         t.deliver_late()

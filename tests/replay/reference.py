@@ -7,8 +7,8 @@ Each file is a run, and has the line `run FILE` before it and an empty line betw
 is named on standard error alone. Without a file, standard input is the one run, with no line before it.
 
 Not written from the Rattle code. The frames' rules come from tests/node/reference.py; what that node never meets (elections
-of its own, marks, redirections, listings, other rosters, a feed in pieces) and the run's format stand here. Bad lines, calls and
-summary come out in the order of the file, so a difference shows at the line that made it.
+of its own, marks, redirections, listings, other rosters, a feed in pieces), the gateway and the run's format stand here. Bad
+lines, calls and summary come out in the order of the file, so a difference shows at the line that made it.
 """
 import binascii
 import importlib.util
@@ -68,9 +68,13 @@ NAMES = {
     35: "too late",
     36: "heard already",
     40: "the list is too short",
+    49: "the key is too long",
 }
 
 LONGEST = 4200  # characters of a line, of a run's file as of a feed
+LONGEST_KEY = 512  # bytes of a key that a lookup carries
+HOPS = 4  # redirections that a lookup follows
+NONE = 65535  # an entry of the gateway's map that is none, as any that is no node's number
 
 
 # ---- a node of any number in any roster
@@ -200,6 +204,43 @@ def read_out(first, last, owner):
     return f"slots {first:,} to {last:,}, that is {last - first + 1:,} slots, " + ("are unowned" if owner is None else f"belong to node {owner}")
 
 
+# ---- the gateway
+
+
+class Gateway:
+    """The gateway's router, document 02, [4]: a cached owner for each slot, and lookups that are walked one by one. Of a node it
+    knows its reply and nothing else."""
+
+    def __init__(self):
+        self.cached = [NONE] * 16384
+
+    def lookup(self, size, key, reply):
+        """A lookup in a roster of that size, where `reply(node, asking)` is what a node says to the question for the key. Each
+        question with its reply, and how the lookup ended."""
+        slot = slot_of(key)
+        node, how = (self.cached[slot], ", cached") if self.cached[slot] < size else (0, ", none cached")
+        asking, asked = False, []
+        while True:
+            said = reply(node, asking)
+            asked.append(f"asks node {node}{how}: {said}")
+            if said == "serve":
+                return asked, f"served by node {node}"
+            if said == "down":
+                return asked, "down, nobody owns the slot"
+            word, *named = said.split()
+            if word not in ("MOVED", "ASK"):
+                return asked, f"refused by the node asked, {said}"
+            about, to = map(int, named)
+            if about != slot or to >= size:
+                return asked, "bad, a reply named another slot or no roster node"
+            if len(asked) > HOPS:
+                return asked, "too many redirections"
+            asking = word == "ASK"
+            if not asking:
+                self.cached[slot] = to
+            node, how = to, " with ASKING" if asking else ""
+
+
 # ---- words: each test gives a word's value, or None where the word does not fit
 
 
@@ -238,7 +279,7 @@ def hex_bytes(word):
 
 NODE = number(0, 255)
 SLOT = OWNER = ROOM = number(0, 65535)
-TIME = number(0, 10**18)
+TIME = HOUSEHOLD = number(0, 10**18)
 PRESENT = either("present", "absent")
 MOST_WORDS = 64
 
@@ -258,6 +299,7 @@ FORMS = {
     b"key": ("key NODE KEY present|absent [asking]", [NODE, any_word, PRESENT], [either("asking")]),
     b"hexkey": ("hexkey NODE DIGITS present|absent [asking]", [NODE, hex_bytes, PRESENT], [either("asking")]),
     b"ranges": ("ranges NODE [ROOM]", [NODE], [ROOM]),
+    b"lookup": ("lookup HOUSEHOLD KEY held NODE..", [HOUSEHOLD, any_word, either("held")], [NODE] * MOST_WORDS),
 }
 
 
@@ -290,6 +332,7 @@ def fitted(words):
 class Run:
     def __init__(self):
         self.nodes = None
+        self.gateway = Gateway()
         self.called = False  # whether a call has been made: the roster is settled then
         self.wins = []  # epoch, node
 
@@ -310,6 +353,8 @@ class Run:
             self.write(name, values)
             return []
         self.called = True
+        if name == "lookup":
+            return self.lookup(place, *values)
         node = self.nodes[values[0]]
         if name != "piece":
             return self.told(place, node, *self.call(node, name, values))
@@ -335,7 +380,7 @@ class Run:
             raise Bad("there is no roster yet")
         if name in ("replica", "timeout") and self.called:
             raise Bad("the first call was made already")
-        named = {"replica": [values[0], values[-1]], "slots": values[-1:], "report": values[:3]}.get(name, values[:1])
+        named = {"replica": [values[0], values[-1]], "slots": values[-1:], "report": values[:3], "lookup": values[3:]}.get(name, values[:1])
         for k in named:
             if k != "all" and k >= len(self.nodes):
                 raise Bad(f"there is no node {k}")
@@ -357,6 +402,16 @@ class Run:
         else:
             where, subject, reporter, time = values
             self.nodes[where].reported[subject, reporter] = time
+
+    def lookup(self, place, household, key, _, *held):
+        """The gateway walks a lookup over the nodes; those behind `held` have the key. No node is changed. A map of another length
+        and a roster's size outside 1 to 64 would be refused before a key that is too long; a run has neither."""
+        if len(key) > LONGEST_KEY:
+            return [f"{place} household {household}: 49 {NAMES[49]}"]
+        asked, end = self.gateway.lookup(len(self.nodes), key, lambda k, asking: self.nodes[k].route(key, k in held, asking))
+        name = key.decode(errors="surrogateescape")
+        lines = [f"{place} household {household}: lookup of {name}, slot {slot_of(key)}"]
+        return lines + ["  " + x for x in asked] + [f"  household {household}, {name}: {end}"]
 
     def call(self, node, name, values):
         """The answer in words, and the notices below it."""
@@ -454,10 +509,15 @@ def played(data):
     return lines + run.summary()
 
 
+def printed(data):
+    """The same as bytes: those of a key are told as they are."""
+    return "".join(line + "\n" for line in played(data)).encode(errors="surrogateescape")
+
+
 def main(names):
     out = sys.stdout.buffer
     if not names:
-        out.write("".join(line + "\n" for line in played(sys.stdin.buffer.read())).encode())
+        out.write(printed(sys.stdin.buffer.read()))
     between = b""  # an empty line between two runs
     for name in names:
         try:
@@ -466,7 +526,7 @@ def main(names):
             print(f"{name}: {error.strerror}", file=sys.stderr)
             continue
         out.write(between + b"run " + os.fsencode(name) + b"\n")
-        out.write("".join(line + "\n" for line in played(data)).encode())
+        out.write(printed(data))
         between = b"\n"
 
 
