@@ -8,10 +8,11 @@ use words::Fit;
 // The forms of a line, a row of 56 bytes each. First what stands at each place, by a letter; the form's name stands at
 // place 0, and the last letter goes for all places from there on. Then the form as it is shown, up to a ~.
 //   z SIZE     N a node of the roster     M such a node, another than at place 1     a such a node, or `all`
-//   n a node's number     o a slot or an owner     O ROOM, or nothing more     t TIME     T a timeout
+//   L such a node, or nothing more
+//   n a node's number     o a slot or an owner     O ROOM, or nothing more     t TIME or HOUSEHOLD     T a timeout
 //   r a range     R a range, or nothing more     w any word     W any word, or nothing more     h a key in hexadecimal
 //   p `present` or `absent`     . nothing more
-//   0 to 5 the words `of`, `for`, `to`, `from`, `claims` or nothing more, `asking` or nothing more
+//   0 to 6 the words `of`, `for`, `to`, `from`, `claims` or nothing more, `asking` or nothing more, `held`
 const FORMS: [u8; SIZE] = *b"\
     -z......roster SIZE~                                    \
     -N0M....replica NODE of MASTER~                         \
@@ -26,11 +27,12 @@ const FORMS: [u8; SIZE] = *b"\
     -No.....unmark NODE SLOT~                               \
     -Nwp5...key NODE KEY present|absent [asking]~           \
     -Nhp5...hexkey NODE DIGITS present|absent [asking]~     \
-    -NO.....ranges NODE [ROOM]~                             ";
+    -NO.....ranges NODE [ROOM]~                             \
+    -tw6LLLLlookup HOUSEHOLD KEY held NODE..~               ";
 
 const WIDTH: usize = 56;
 
-const SIZE: usize = 784;
+const SIZE: usize = 840;
 
 // The forms' rows. From FRAME on they are calls; the others write a roster or its tables.
 pub const ROSTER: u8 = 0;
@@ -61,8 +63,10 @@ pub const HEXKEY: u8 = 12;
 
 pub const RANGES: u8 = 13;
 
+pub const LOOKUP: u8 = 14;
+
 // One more than the last form's row: the first word is no form's name.
-const COUNT: u8 = 14;
+const COUNT: u8 = 15;
 
 // Nothing but blanks and a comment.
 pub const SILENT: u8 = 254;
@@ -74,15 +78,17 @@ pub const TOO_LONG: u8 = 255;
 pub const ALL: u64 = 256;
 
 // The most words of a line.
-const WORDS: usize = 64;
+pub const WORDS: usize = 64;
 
 // What a line says. A range, a frame's digits and a key are words of the line: see `word`.
 pub struct Call {
     pub form: u8,
     // Which word does not fit, counted from 1; 0 if all do.
     pub wrong: u8,
+    // How many words it has, the form's name among them.
+    pub words: usize,
     // The number that stands at each place, from 0; 1 for `present` and for `asking`; ROOM as one more, so that 0 is none.
-    pub numbers: [u64; 8],
+    pub numbers: [u64; WORDS],
 }
 
 // ---- words
@@ -149,7 +155,7 @@ fn literal(word: &[u8], kind: u8) -> bool {
     words::same(
         word,
         word_of(
-            b"of for to from claims asking present absent all",
+            b"of for to from claims asking held present absent all",
             (kind - b'0') as usize,
         ),
     )
@@ -157,7 +163,7 @@ fn literal(word: &[u8], kind: u8) -> bool {
 
 // `all`, or a node.
 fn whose(word: &[u8]) -> Fit {
-    if literal(word, b'8') {
+    if literal(word, b'9') {
         return fitted(true, ALL);
     }
     words::number(word, b'N')
@@ -165,10 +171,10 @@ fn whose(word: &[u8]) -> Fit {
 
 // `present` or `absent`.
 fn presence(word: &[u8]) -> Fit {
-    if literal(word, b'6') {
+    if literal(word, b'7') {
         return fitted(true, 1);
     }
-    fitted(literal(word, b'7'), 0)
+    fitted(literal(word, b'8'), 0)
 }
 
 // Nobody follows itself.
@@ -196,7 +202,7 @@ fn is_hex(word: &[u8]) -> bool {
 // A word that is there.
 fn fitting(word: &[u8], kind: u8, node: u64) -> Fit {
     match kind {
-        b'.'..=b'5' => fitted(literal(word, kind), 1),
+        b'.'..=b'6' => fitted(literal(word, kind), 1),
         b'M' => master(word, node),
         b'O' => room(word),
         b'R' | b'r' => fitted(words::is_range(word), 0),
@@ -211,7 +217,7 @@ fn fitting(word: &[u8], kind: u8, node: u64) -> Fit {
 // The line may end before a place of that kind.
 fn may_end(kind: u8) -> bool {
     match kind {
-        b'.' | b'4' | b'5' | b'O' | b'R' | b'W' => true,
+        b'.' | b'4' | b'5' | b'L' | b'O' | b'R' | b'W' => true,
         _ => false,
     }
 }
@@ -261,7 +267,8 @@ fn bad(form: u8, wrong: u8) -> Call {
     Call {
         form,
         wrong,
-        numbers: [0; 8],
+        words: 0,
+        numbers: [0; WORDS],
     }
 }
 
@@ -278,7 +285,7 @@ pub fn too_long() -> Call {
 fn read_words(forms: &[u8; SIZE], form: u8, text: &[u8], from: usize) -> Call
     requires { ⌜ from ≤ length (now text) ⌝ }
 {
-    let mut numbers = [0u64; 8];
+    let mut numbers = [0u64; WORDS];
     let mut end = from;
     let mut place: usize = 1;
     while place <= WORDS {
@@ -290,6 +297,7 @@ fn read_words(forms: &[u8; SIZE], form: u8, text: &[u8], from: usize) -> Call
                 return Call {
                     form,
                     wrong: 0,
+                    words: place,
                     numbers,
                 };
             }
@@ -299,11 +307,7 @@ fn read_words(forms: &[u8; SIZE], form: u8, text: &[u8], from: usize) -> Call
         if !found.right {
             return bad(form, place as u8 + 1);
         }
-        if place > 7 {
-            place += 1;
-            continue;
-        }
-        numbers[place] = found.value;
+        numbers[place % WORDS] = found.value;
         place += 1;
     }
     bad(form, 0)
@@ -335,7 +339,7 @@ pub fn stranger(call: Call, size: u64) -> usize {
 
 fn stranger_by(forms: &[u8; SIZE], call: Call, size: u64) -> usize {
     let mut place: usize = 1;
-    while place < 8 {
+    while place < WORDS {
         let number = call.numbers[place];
         if is_strange(kind_at(forms, call.form, place), number, size) {
             return place;
@@ -347,7 +351,7 @@ fn stranger_by(forms: &[u8; SIZE], call: Call, size: u64) -> usize {
 
 fn is_strange(kind: u8, number: u64, size: u64) -> bool {
     match kind {
-        b'N' | b'M' => number >= size,
+        b'N' | b'M' | b'L' => number >= size,
         b'a' => {
             if number == ALL {
                 return false;

@@ -160,9 +160,10 @@ fn fewer(turns: u64, source: Source) -> u64
     turns - 1
 }
 
-// The lines of a run, and its summary. The nodes and their tables stand here, and each line takes out those that it is about.
-// The list is lent to each as it is: what is read of it was written by the same line.
-fn play_lines(begin: Source, buf: &mut [u8], list: &mut [u16], out: &mut [u8]) {
+// The lines of a run, and its summary. The nodes and their tables stand here, and each line takes out those that it is about; a
+// lookup goes over all of them, and changes the gateway's map alone. The list is lent to each as it is: what is read of it was
+// written by the same line.
+fn play_lines(begin: Source, buf: &mut [u8], list: &mut [u16], map: &mut [u16], out: &mut [u8]) {
     let mut slots = [tables::UNOWNED; ALL_SLOTS];
     let mut reports = [0u64; ALL_REPORTS];
     let mut seats = [seats::newcomer(0, 0); ROOM];
@@ -195,19 +196,25 @@ fn play_lines(begin: Source, buf: &mut [u8], list: &mut [u16], out: &mut [u8]) {
             run = turn.run;
             k += 1;
         }
-        run.at = lines::drained(out, run.at, FULL);
+        if call.form != calls::LOOKUP {
+            run.at = lines::drained(out, run.at, FULL);
+            continue;
+        }
+        let at = walks::look_up(map, run.size, seats, &slots, source, call, out, run.at);
+        run.at = lines::drained(out, at, FULL);
     }
     let wins = run.wins;
     let end = tellings::put_wins(out, run.at, &wins, run.won);
     lines::flush(out, end);
 }
 
-// A run. The list, and the room for what is told, stand here: in the function with the loop every step of its proof would
-// compute with their lengths.
+// A run. The list, the gateway's map, which has no entry yet, and the room for what is told stand here: in the function with the
+// loop every step of its proof would compute with their lengths.
 fn play(begin: Source, buf: &mut [u8]) {
     let mut list = [0u16; LIST];
+    let mut map = [tables::UNOWNED; SLOTS];
     let mut out = [0u8; TEXT];
-    play_lines(begin, buf, &mut list, &mut out);
+    play_lines(begin, buf, &mut list, &mut map, &mut out);
 }
 
 // ---- files

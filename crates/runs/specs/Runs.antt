@@ -30,4 +30,4 @@ remembered answer epoch k r = cond (eqb (number answer) 30) (cond (eqb epoch 0) 
 
 -- what the input's end is taken for, among the calls: the form below that of a line that says nothing
 abbrev pub theEnd : Call
-theEnd = record { form = 253; wrong = 0; numbers = replicate 8 0 }
+theEnd = record { form = 253; wrong = 0; words = 0; numbers = replicate 64 0 }

@@ -70,7 +70,8 @@ pub fn summary() -> Call
     Call {
         form: SUMMARY,
         wrong: 0,
-        numbers: [0; 8],
+        words: 0,
+        numbers: [0; calls::WORDS],
     }
 }
 
@@ -109,7 +110,7 @@ fn mistimed(call: Call, run: Run, place: usize) -> Note {
         }
     }
     if place > 0 {
-        return tellings::text(tellings::NO_NODE, said[place % 8], 0);
+        return tellings::text(tellings::NO_NODE, said[place % calls::WORDS], 0);
     }
     tellings::text(tellings::END, 0, 0)
 }
@@ -161,17 +162,14 @@ fn stretch(first: u64, last: u64) -> Span
     }
 }
 
-// Nobody, the whole roster, or the node that is named.
-fn span_of(call: Call, fault: Note, size: u64) -> Span
+// Nobody, the whole roster, or the node that is named. A lookup is about no node by itself: it changes none.
+fn span_of(call: Call, size: u64) -> Span
     ensures { λ r. ⌜ r .last ≤ 16 ⌝ }
 {
     let said = call.numbers;
-    if fault.row != tellings::END {
-        return stretch(0, 0);
-    }
     let form = call.form;
     match form {
-        calls::SILENT => stretch(0, 0),
+        calls::SILENT | calls::LOOKUP => stretch(0, 0),
         calls::ROSTER => stretch(0, said[1]),
         calls::REPLICA | SUMMARY => stretch(0, size),
         calls::SLOTS => {
@@ -185,13 +183,10 @@ fn span_of(call: Call, fault: Note, size: u64) -> Span
 }
 
 // The run after a line.
-fn after(past: Run, call: Call, fault: Note, at: usize) -> Run {
+fn after(past: Run, call: Call, at: usize) -> Run {
     let said = call.numbers;
     let mut run = past;
     run.at = at;
-    if fault.row != tellings::END {
-        return run;
-    }
     if call.form == calls::ROSTER {
         run.size = said[1];
         return run;
@@ -206,7 +201,15 @@ fn after(past: Run, call: Call, fault: Note, at: usize) -> Run {
     run
 }
 
-// A line that was heard: its call, the nodes that it is about, and the run after it.
+// What is done for a line: nothing where something is wrong with it.
+fn heeded(call: Call, fault: Note) -> Call {
+    if fault.row != tellings::END {
+        return calls::silent();
+    }
+    call
+}
+
+// A line that was heard: what is done, the nodes that it is about, and the run after it.
 pub struct Heard {
     pub call: Call,
     pub first: usize,
@@ -218,12 +221,13 @@ pub fn hear(call: Call, count: u64, run: Run, out: &mut [u8]) -> Heard
     ensures { λ r. ⌜ r .last ≤ 16 ⌝ }
 {
     let fault = fault_of(call, run);
-    let span = span_of(call, fault, run.size);
     let at = put_fault(out, run.at, count, call, fault);
+    let call = heeded(call, fault);
+    let span = span_of(call, run.size);
     Heard {
         call,
         first: span.first,
         last: span.last,
-        run: after(run, call, fault, at),
+        run: after(run, call, at),
     }
 }

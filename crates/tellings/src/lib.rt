@@ -17,88 +17,119 @@ pub struct Note {
 }
 
 // Below this number a text is an answer's.
-const NOTES: u8 = 41;
+const NOTES: u8 = 50;
 
 // The other texts: a call's line,
-const HEAD: u8 = 41;
+const HEAD: u8 = 50;
 
-const EPOCHS: u8 = 42;
+const EPOCHS: u8 = 51;
 
-const HEARD: u8 = 43;
+const HEARD: u8 = 52;
 
-const HEARD_STALE: u8 = 44;
+const HEARD_STALE: u8 = 53;
 
-const LISTED: u8 = 45;
+const LISTED: u8 = 54;
 
-const DOWN: u8 = 46;
+const DOWN: u8 = 55;
 
-const SERVE: u8 = 47;
+const SERVE: u8 = 56;
 
-const ASK: u8 = 48;
+const ASK: u8 = 57;
 
-const MOVED: u8 = 49;
+const MOVED: u8 = 58;
 
-const KEPT: u8 = 50;
+const KEPT: u8 = 59;
 
-const LONG: u8 = 51;
+const LONG: u8 = 60;
 
 // what people look for, below it, a flag's text by the flag,
-const FLAG: u8 = 52;
+const FLAG: u8 = 61;
 
-const OPENED: u8 = 55;
+const OPENED: u8 = 64;
 
-const GRANTED: u8 = 56;
+const GRANTED: u8 = 65;
 
-const WON: u8 = 57;
+const WON: u8 = 66;
 
-const BOUND: u8 = 58;
+const BOUND: u8 = 67;
 
-const REBOUND: u8 = 59;
+const REBOUND: u8 = 68;
 
-const STALE: u8 = 60;
+const STALE: u8 = 69;
 
 // a line that does not fit or cannot be done,
-pub const BAD: u8 = 61;
+pub const BAD: u8 = 70;
 
-pub const NO_FORM: u8 = 62;
+pub const NO_FORM: u8 = 71;
 
-pub const UNFIT: u8 = 63;
+pub const UNFIT: u8 = 72;
 
-pub const NO_ROSTER: u8 = 64;
+pub const NO_ROSTER: u8 = 73;
 
-pub const STANDS: u8 = 65;
+pub const STANDS: u8 = 74;
 
-pub const BEGUN: u8 = 66;
+pub const BEGUN: u8 = 75;
 
-pub const NO_NODE: u8 = 67;
+pub const NO_NODE: u8 = 76;
 
-pub const TOO_LONG: u8 = 68;
+pub const TOO_LONG: u8 = 77;
 
 // the summary, a flagged node's text by the flag,
-pub const SUMMARY: u8 = 69;
+pub const SUMMARY: u8 = 78;
 
-const MASTER: u8 = 70;
+const MASTER: u8 = 79;
 
-const REPLICA: u8 = 71;
+const REPLICA: u8 = 80;
 
-const OWN: u8 = 72;
+const OWN: u8 = 81;
 
-const FLAGGED: u8 = 73;
+const FLAGGED: u8 = 82;
 
-const WINNER: u8 = 76;
+const WINNER: u8 = 85;
 
-const AGAIN: u8 = 77;
+const AGAIN: u8 = 86;
 
-const NO_WINS: u8 = 78;
+const NO_WINS: u8 = 87;
 
-// and what stands in lists.
-const MEMBER: u8 = 79;
+// what stands in lists,
+const MEMBER: u8 = 88;
 
-const NONE: u8 = 80;
+const NONE: u8 = 89;
 
-pub const QUOTE: u8 = 81;
+pub const QUOTE: u8 = 90;
 
-pub const END: u8 = 82;
+pub const END: u8 = 91;
+
+// and a lookup's lines: whose it is, a question and how it ended.
+pub const HOUSEHOLD: u8 = 92;
+
+pub const LOOKUP: u8 = 93;
+
+pub const SLOT: u8 = 94;
+
+pub const ASKS_CACHED: u8 = 95;
+
+pub const ASKS_FIRST: u8 = 96;
+
+pub const ASKS: u8 = 97;
+
+pub const ASKS_ASKING: u8 = 98;
+
+pub const ENDED: u8 = 99;
+
+pub const COLON: u8 = 100;
+
+pub const SERVED: u8 = 101;
+
+pub const NOBODY: u8 = 102;
+
+pub const BAD_REPLY: u8 = 103;
+
+pub const DECLINED: u8 = 104;
+
+pub const TOO_MANY: u8 = 105;
+
+pub const NOTHING: u8 = 106;
 
 // ---- texts
 
@@ -142,7 +173,7 @@ fn put_text(out: &mut [u8], at: usize, texts: &[u8], note: Note) -> usize {
 }
 
 // All texts: the answers' first, then the others. Each goes up to a ~.
-const TEXTS: [u8; 1635] = *b"done~\
+const TEXTS: [u8; 1961] = *b"done~\
     a table has the wrong length~\
     not a frame~\
     no such node~\
@@ -183,6 +214,15 @@ const TEXTS: [u8; 1635] = *b"done~\
     ~\
     ~\
     the list is too short, ranges %~\
+    ~\
+    ~\
+    ~\
+    ~\
+    ~\
+    ~\
+    ~\
+    ~\
+    the key is too long~\
     % node %: ~\
     ; currentEpoch %, lastVoteEpoch %\n~\
     0 heard, bound %, rebound %~\
@@ -224,7 +264,22 @@ const TEXTS: [u8; 1635] = *b"done~\
     \x20%~\
     \x20none~\
     '~\
-    \n~";
+    \n~\
+    % household %: ~\
+    lookup of ~\
+    , slot %\n~\
+    \x20 asks node %, cached: ~\
+    \x20 asks node %, none cached: ~\
+    \x20 asks node %: ~\
+    \x20 asks node % with ASKING: ~\
+    \x20 household %, ~\
+    : ~\
+    served by node %~\
+    down, nobody owns the slot~\
+    bad, a reply named another slot or no roster node~\
+    refused by the node asked, ~\
+    too many redirections~\
+    ~";
 
 // An answer begins with its number.
 fn put_kind(out: &mut [u8], at: usize, row: u8) -> usize {

@@ -8,7 +8,7 @@ abbrev Inv-loop : tie.InvT-loop
 Inv-loop forms word form₀ form = Unit {0}
 
 abbrev μ-loop : tie.MeasureT-loop
-μ-loop forms word form₀ form = 14 - form
+μ-loop forms word form₀ form = 15 - form
 
 pub form-of-spec : {M : Type 1} → statement M
 form-of-spec =

@@ -10,7 +10,7 @@ abbrev Inv-loop : tie.InvT-loop
 Inv-loop forms out₀ at form end₀ i₀ out end i = length out ≡ length out₀
 
 abbrev μ-loop : tie.MeasureT-loop
-μ-loop forms out₀ at form end₀ i₀ out end i = 784 - i
+μ-loop forms out₀ at form end₀ i₀ out end i = 840 - i
 
 pub put-by-spec : {M : Type 1} → statement M
 put-by-spec =

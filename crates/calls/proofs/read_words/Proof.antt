@@ -7,7 +7,7 @@ use Rattle.calls.proofs.read_words.Statement.{statement}
 use Rattle.calls.proofs.read_words.Tie as tie
 
 abbrev Inv-loop : tie.InvT-loop
-Inv-loop forms form text from numbers₀ end₀ place₀ numbers end place = (length numbers ≡ 8) × (end ≤ length text)
+Inv-loop forms form text from numbers₀ end₀ place₀ numbers end place = (length numbers ≡ 64) × (end ≤ length text)
 
 abbrev μ-loop : tie.MeasureT-loop
 μ-loop forms form text from numbers₀ end₀ place₀ numbers end place = 65 - place
@@ -20,4 +20,4 @@ read-words-spec =
     (λ c. search needs) (λ c. search needs) (λ c. search needs) (λ c. search needs) (λ c. search needs)
     (λ c κs. search needs) (λ c. search needs) (λ c. search needs) (λ c κs. search needs) (λ c. search needs)
     (λ c. search needs) (λ c. search needs) (λ c. search needs) (λ c. search needs) (λ c. search needs)
-    (λ c. search needs) (λ c. search needs) (λ c. search needs) (λ c κs. search needs) (λ c. search needs))
+    (λ c κs. search needs) (λ c. search needs))

@@ -8,7 +8,7 @@ abbrev Inv-loop : tie.InvT-loop
 Inv-loop forms size call place₀ place = Unit {0}
 
 abbrev μ-loop : tie.MeasureT-loop
-μ-loop forms size call place₀ place = 8 - place
+μ-loop forms size call place₀ place = 64 - place
 
 pub stranger-by-spec : {M : Type 1} → statement M
 stranger-by-spec =
