@@ -165,7 +165,7 @@ fn fewer(turns: u64, source: Source) -> u64
 // written by the same line.
 fn play_lines(begin: Source, buf: &mut [u8], list: &mut [u16], map: &mut [u16], out: &mut [u8]) {
     let mut slots = [tables::UNOWNED; ALL_SLOTS];
-    let mut reports = [0u64; ALL_REPORTS];
+    let mut times = [0u64; ALL_REPORTS];
     let mut seats = [seats::newcomer(0, 0); ROOM];
     let mut run = runs::nobody();
     let mut source = begin;
@@ -179,18 +179,8 @@ fn play_lines(begin: Source, buf: &mut [u8], list: &mut [u16], map: &mut [u16], 
         let last = heard.last;
         let mut k = heard.first;
         while k < last {
-            let here = seats[k];
-            let turn = take_turn(
-                here,
-                &mut slots,
-                &mut reports,
-                list,
-                out,
-                k,
-                source,
-                call,
-                run,
-            );
+            let old = seats[k];
+            let turn = take_turn(old, &mut slots, &mut times, list, out, k, source, call, run);
             let next = turn.seat;
             seats[k] = next;
             run = turn.run;

@@ -8,23 +8,19 @@ use Rattle.replay.proofs.play_lines.Statement.{statement}
 use Rattle.replay.proofs.play_lines.Tie as tie
 
 abbrev Inv-loop2 : tie.InvT-loop2
-Inv-loop2 buf list₀ map out₀ slots₀ reports₀ seats₀ run₀ source turns call last k₀ list out slots reports seats run k = (length list ≡ length list₀) × (length out ≡ length out₀) × (length slots ≡ 262144) × (length reports ≡ 65536) × (length seats ≡ 16)
+Inv-loop2 buf list₀ map out₀ slots₀ times₀ seats₀ run₀ source turns call last k₀ list out slots times seats run k = (length list ≡ length list₀) × (length out ≡ length out₀) × (length slots ≡ 262144) × (length times ≡ 65536) × (length seats ≡ 16)
 
 abbrev μ-loop2 : tie.MeasureT-loop2
-μ-loop2 buf list₀ map out₀ slots₀ reports₀ seats₀ run₀ source turns call last k₀ list out slots reports seats run k = last - k
+μ-loop2 buf list₀ map out₀ slots₀ times₀ seats₀ run₀ source turns call last k₀ list out slots times seats run k = last - k
 
 abbrev Inv-loop : tie.InvT-loop
-Inv-loop buf₀ list₀ map₀ out₀ slots₀ reports₀ seats₀ run₀ source₀ turns₀ buf list map out slots reports seats run source turns = (length buf ≡ length buf₀) × (length list ≡ length list₀) × (length map ≡ length map₀) × (length out ≡ length out₀) × (length slots ≡ 262144) × (length reports ≡ 65536) × (length seats ≡ 16)
+Inv-loop buf₀ list₀ map₀ out₀ slots₀ times₀ seats₀ run₀ source₀ turns₀ buf list map out slots times seats run source turns = (length buf ≡ length buf₀) × (length list ≡ length list₀) × (length map ≡ length map₀) × (length out ≡ length out₀) × (length slots ≡ 262144) × (length times ≡ 65536) × (length seats ≡ 16)
 
 abbrev μ-loop : tie.MeasureT-loop
-μ-loop buf₀ list₀ map₀ out₀ slots₀ reports₀ seats₀ run₀ source₀ turns₀ buf list map out slots reports seats run source turns = turns
+μ-loop buf₀ list₀ map₀ out₀ slots₀ times₀ seats₀ run₀ source₀ turns₀ buf list map out slots times seats run source turns = turns
 
 loop-holds : tie.Need-loop-holds Inv-loop2 μ-loop2 Inv-loop μ-loop
 loop-holds c = (refl, refl, refl, refl, length-replicate {A = ℕ} 262144 65535, length-replicate {A = ℕ} 65536 0, refl)
-
-slice-aggregate-take-turn-2 :
-    tie.Need-slice-aggregate-take-turn-2 Inv-loop2 μ-loop2 Inv-loop μ-loop
-slice-aggregate-take-turn-2 c = search needs
 
 loop2-again : tie.Need-loop2-again Inv-loop2 μ-loop2 Inv-loop μ-loop
 loop2-again c = (search needs, search needs, search needs, search needs, search needs)
