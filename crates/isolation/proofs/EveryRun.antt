@@ -18,7 +18,7 @@ use Rattle.gateway.specs.Gateway.{entryAt, startChecks, firstAsked, firstStage,
 use Rattle.isolation.specs.Runs.{Event, Happening, starts, hears, Progress, unstarted, reached, becomes, after}
 use Rattle.isolation.specs.Isolation.{just}
 use Rattle.isolation.specs.EveryRun.{carried, comes, cameIn, asks, asksNow, sinceStart, questions, NoneOn, EveryRun}
-use Rattle.isolation.proofs.Turns.{through, Comes, ended, sent, moves, turn-comes}
+use Rattle.gateway.proofs.Turns.{through, Comes, ended, sent, moves, turn-comes}
 use Rattle.isolation.proofs.Runs.{by-events, all-on, leaves-others}
 
 -- ---- household and key

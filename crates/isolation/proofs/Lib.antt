@@ -1,4 +1,3 @@
-pub mod Turns
 pub mod Replies
 pub mod Runs
 pub mod Isolation

@@ -24,7 +24,7 @@ use Rattle.lookups.specs.declared.Learned.the-variants.{Nothing, Owner}
 use Rattle.lookups.specs.declared.Turn.{Turn}
 use Rattle.gateway.specs.Gateway.{entryAt, turn, turnOf, learn, taken, asked}
 use Rattle.isolation.specs.Replies.{Follows, OneReply, NodesReply}
-use Rattle.isolation.proofs.Turns.{Names, Why, Comes, ended, sent, moves, turn-comes, why-ended}
+use Rattle.gateway.proofs.Turns.{Names, Why, Comes, ended, sent, moves, turn-comes, why-ended}
 
 -- ---- the map
 

@@ -1,4 +1,4 @@
--- A key's slot, and a text copied into a key.
+-- A text copied into a key.
 use mathlib.Core.Path.{_≡_, refl, sym, subst, _∙_}
 use mathlib.Core.Bool.{Bool, true, false}
 use mathlib.Core.List.{List}
@@ -10,13 +10,7 @@ use lib.ListN.{length, take, getD, set, length-set, length-take}
 use lib.Dec.{ltb}
 use lib.Seq.{take-suc, take-suc-set, take-all, length-take-le, take-length}
 use borrow.Author.Tests.{ltb-true, ltb-false}
-use Rattle.tables.specs.Sizes.{slotCount}
-use Rattle.slots.proofs.Slots.{key-slot-below}
-use Rattle.lookups.specs.declared.Key.{Key}
-use Rattle.lookups.specs.Keys.{keyRoom, keyBytes, slotOf}
-
-pub slot-below : (key : Key) → slotOf key < slotCount
-slot-below key = key-slot-below (keyBytes key)
+use Rattle.lookups.specs.Keys.{keyRoom}
 
 -- i bytes of the front stand in the key
 pub record Copied (front is : List ℕ) (i : ℕ) : Type 0 where

@@ -19,7 +19,7 @@ use Rattle.lookups.specs.declared.Stage.the-variants.{Asking, Ended}
 use Rattle.lookups.specs.declared.Lookup.{Lookup}
 use Rattle.lookups.specs.declared.Turn.{Turn}
 use Rattle.gateway.specs.Gateway.{Taken, startChecks, started, turn, taken, asked}
-use Rattle.isolation.proofs.Turns.{Comes, through, turn-comes}
+use Rattle.gateway.proofs.Turns.{Comes, through, turn-comes}
 use Rattle.walks.specs.Walks.{questioned, walked, hasEnded, WalkEnds}
 use Rattle.walks.proofs.Walks.{ended}
 

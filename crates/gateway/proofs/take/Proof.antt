@@ -26,7 +26,7 @@ same-length c = search needs
 returns : tie.Need-returns
 unfolding taken
 returns c = let l = c .before .before .before in let n = l .before in let t = n .before .before in let a = t .before .before .before .args in
-    rw (c .at .ensures, l .learn .ensures, n .named .ensures, t .turn .ensures, named-turn (a .map .now) (a .size) (slotOf (a .lookup .key)) (length (a .map .now)) (a .lookup .stage) (reply (a .redirect)))
+    rw (c .at .ensures, l .learn .ensures, n .named .ensures, t .turn .ensures, named-turn (a .size) (slotOf (a .lookup .key)) (a .map .now) (length (a .map .now)) (a .lookup .stage) (reply (a .redirect)))
 
 pub take-spec : {M : Type 1} → statement M
 take-spec =
