@@ -11,7 +11,8 @@ real node's name. Some come by a serial bridge, in pieces that are cut anywhere,
 long. Some lines of the file do not fit. Masters without slots are there from the start, others lose their last slot or come to
 their first, and the tables differ from node to node: who may vote, and who counts, goes by the table of the node that looks.
 Tables are listed, rarely one with a range for each slot. Households are looked up, over slots that are owned, unowned, moving or
-moved, and over tables that send the gateway round.
+moved, over tables that send the gateway round, and over nodes that know a slot's owner by an epoch just below the cached one, the
+same or just above it.
 
 With --votes most lines are vote requests, each at one of the limits of the voter that gets it, and few come by the bridge.
 
@@ -432,11 +433,11 @@ def listed(t, node):
 def lookups(t):
     """Some households are looked up, one after the other. Now and then one slot is seen to before, and then they are on that slot."""
     r = t.random
-    name = None
-    if r.random() < 0.4:
-        name = r.choice(TAGS)
-        r.choice((sent_on, sent_on, moving))(t, slot_of(name))
-    for _ in range(r.choice((1, 1, 2, 2, 4))):
+    scene = r.choice((None, None, None, sent_on, moving, aged, aged))
+    name = r.choice(TAGS) if scene else None
+    for i in range(r.choice((1, 1, 2, 2, 4))):
+        if scene and (i == 0 or scene is aged and r.random() < 0.8):
+            scene(t, slot_of(name))
         lookup(t, name)
 
 
@@ -467,6 +468,42 @@ def sent_on(t, slot):
     way = r.sample(range(size), min(size, r.choice((1, 2, 2, 3, 4, 5, 5, 6, 7))))
     for k, owner in zip(way, way[1:] + [r.choice((way[0], way[-1], way[-1], 65535))]):
         t.put(f"slots {slot} of {owner} for {k}")
+
+
+def aged(t, slot, least=0):
+    """A way for a lookup of the slot, from the node that it asks first. Each node on it knows the next by the same epoch as was told
+    before, at first the cached one, or by one just above; only the last, which may be a fifth or behind an ASK, also by one just below."""
+    r, size, gateway = t.random, len(t.nodes()), t.run.gateway
+    if size < 2:
+        return
+    up, near, asks = (0, 0, 1), (-1, -1, 0, 0, 1), r.random() < 0.25
+    epoch = max(least, gateway.epoch(size, slot))
+    way = [gateway.cached[slot] if gateway.cached[slot] < size else 0]
+    for left in reversed(range(r.choice((1, 1, 1, 2, 2, 3, 4, 5, 5, 5, 5)))):
+        node = t.nodes()[way[-1]]
+        epoch = min(TOP, max(0, epoch + r.choice(up if left or asks else near)))
+        others = [x for x in range(size) if x != node.me]
+        new = [x for x in others if x not in way] if left else others
+        way.append(r.choice([x for x in new if node.config[x] <= epoch] or new or others))
+        epoch = max(epoch, node.config[way[-1]])
+        names_owner(t, node, slot, way[-1], epoch)
+    end = way[-1]
+    if asks:  # the peer is told nothing of the move, and names the owner
+        peers = [n for n in t.nodes() if n.me != end]
+        peer = r.choice([n for n in peers if n.config[end] < epoch] or peers)
+        t.put(f"slots {slot} of {end} for {end}")
+        t.put(f"migrate {end} {slot} to {peer.me}")
+        names_owner(t, peer, slot, end, min(TOP, max(0, epoch + r.choice(near))))
+    elif r.random() < 0.6:
+        t.put(f"slots {slot} of {r.choice((end, end, end, 65535))} for {end}")
+
+
+def names_owner(t, node, slot, to, epoch):
+    """A node comes to name another as a slot's owner, and to know it by this epoch, if not by a higher one: it alone hears of that."""
+    if node.config[to] < epoch:
+        t.frame(node.me, "01" + byte(to) + "0000" + wide(epoch) + wide(epoch) + wide(t.time(node)), t.random.choice(([], [slot])))
+    if node.owner[slot] != to:
+        t.put(f"slots {slot} of {to} for {node.me}")
 
 
 def moving(t, slot):
@@ -607,6 +644,10 @@ def the_top(t):
         other = t.other(node)
         t.frame(node.me, "01" + byte(other) + "0000" + wide(TOP - t.random.choice((0, 1, 2))) + wide(node.config[node.me]) + wide(node.clock), [])
     failover(t)
+    for name in t.random.sample(TAGS, 3):
+        for _ in range(3):
+            aged(t, slot_of(name), TOP - t.random.choice((0, 1, 2)))
+            lookup(t, name)
     for node in t.nodes():
         t.frame(node.me, "07000000" + wide(2**48 - t.random.choice((0, 1))))
         t.put(f"open {node.me} {2**48 - 1}")

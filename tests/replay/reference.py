@@ -175,7 +175,10 @@ class Member(node01.Node):
             return "down"
         if self.owner[slot] == self.me:
             return f"ASK {slot} {peer}" if side == "migrating" and not present else "serve"
-        return "serve" if side == "importing" and asking else f"MOVED {slot} {self.owner[slot]}"
+        if side == "importing" and asking:
+            return "serve"
+        owner = self.owner[slot]
+        return f"MOVED {slot} {owner} at epoch {self.config[owner]}"  # document 02, [5]: by what this node knows of its owner
 
     def stretches(self):
         """The whole table: first slot, last slot, and their owner, or None. Those that have an owner are the ranges of document
@@ -208,17 +211,24 @@ def read_out(first, last, owner):
 
 
 class Gateway:
-    """The gateway's router, document 02, [4]: a cached owner for each slot, and lookups that are walked one by one. Of a node it
-    knows its reply and nothing else."""
+    """The gateway's router, document 02, [4] and [5]: a cached owner for each slot with an epoch beside it, and lookups that are
+    walked one by one. Of a node it knows its reply and nothing else."""
 
     def __init__(self):
         self.cached = [NONE] * 16384
+        self.epochs = [0] * 16384
+
+    def epoch(self, size, slot):
+        """The epoch of a slot's entry as it stands now. An entry that is none counts as 0, whatever stands beside it."""
+        return self.epochs[slot] if self.cached[slot] < size else 0
 
     def lookup(self, size, key, reply):
         """A lookup in a roster of that size, where `reply(node, asking)` is what a node says to the question for the key. Each
         question with its reply, and how the lookup ended."""
         slot = slot_of(key)
-        node, how = (self.cached[slot], ", cached") if self.cached[slot] < size else (0, ", none cached")
+        node, how = 0, ", none cached"
+        if self.cached[slot] < size:
+            node, how = self.cached[slot], f", cached at epoch {self.epoch(size, slot)}"
         asking, asked = False, []
         while True:
             said = reply(node, asking)
@@ -227,17 +237,19 @@ class Gateway:
                 return asked, f"served by node {node}"
             if said == "down":
                 return asked, "down, nobody owns the slot"
-            word, *named = said.split()
+            word = said.split()[0]
             if word not in ("MOVED", "ASK"):
                 return asked, f"refused by the node asked, {said}"
-            about, to = map(int, named)
+            about, to, *at = map(int, re.findall(r"\d+", said))  # an ASK has no epoch
             if about != slot or to >= size:
                 return asked, "bad, a reply named another slot or no roster node"
             if len(asked) > HOPS:
                 return asked, "too many redirections"
             asking = word == "ASK"
             if not asking:
-                self.cached[slot] = to
+                if at[0] < self.epoch(size, slot):  # the entry as it stands now, by this lookup's own MOVEDs too
+                    return asked, "stale, the MOVED is older than the cached entry"
+                self.cached[slot], self.epochs[slot] = to, at[0]
             node, how = to, " with ASKING" if asking else ""
 
 
