@@ -7,6 +7,12 @@ use lookups::Stage;
 use routing::Redirect;
 use tellings::Note;
 
+// The gateway's entry for the key's slot, as a question finds it: none, or one of that epoch.
+pub enum Cached {
+    Nothing,
+    At(u64),
+}
+
 // A text with one number.
 fn put_row(out: &mut [u8], at: usize, row: u8, number: u64) -> usize {
     tellings::put(out, at, tellings::text(row, number, 0))
@@ -27,6 +33,7 @@ fn of_end(end: End) -> Note {
         End::Down => tellings::text(tellings::NOBODY, 0, 0),
         End::Declined(number) => tellings::text(number, 0, 0),
         End::TooMany => tellings::text(tellings::TOO_MANY, 0, 0),
+        End::Stale => tellings::text(tellings::STALE_REPLY, 0, 0),
         End::Refused(number) => tellings::text(number, 0, 0),
     }
 }
@@ -71,22 +78,23 @@ pub fn put_start(out: &mut [u8], at: usize, count: u64, lookup: Lookup) -> usize
     }
 }
 
-// Of a first question: whether it goes to the cached owner.
-fn of_first(cached: bool) -> u8 {
-    if cached {
-        return tellings::ASKS_CACHED;
+// A first question goes to the cached owner, and is told with the epoch that a MOVED is held against; or to node 0.
+fn of_first(node: u64, cached: Cached) -> Note {
+    match cached {
+        Cached::Nothing => tellings::text(tellings::ASKS_FIRST, node, 0),
+        Cached::At(epoch) => tellings::text(tellings::ASKS_CACHED, node, epoch),
     }
-    tellings::ASKS_FIRST
 }
 
-fn of_question(question: Question, cached: bool) -> u8 {
+fn of_question(question: Question, cached: Cached) -> Note {
+    let node = question.node as u64;
     if question.asking {
-        return tellings::ASKS_ASKING;
+        return tellings::text(tellings::ASKS_ASKING, node, 0);
     }
     if question.hops > 0 {
-        return tellings::ASKS;
+        return tellings::text(tellings::ASKS, node, 0);
     }
-    of_first(cached)
+    of_first(node, cached)
 }
 
 // A question, and what the node replied.
@@ -94,10 +102,10 @@ pub fn put_question(
     out: &mut [u8],
     at: usize,
     question: Question,
-    cached: bool,
+    cached: Cached,
     redirect: Redirect,
 ) -> usize {
-    let a = put_row(out, at, of_question(question, cached), question.node as u64);
+    let a = tellings::put(out, at, of_question(question, cached));
     let b = tellings::put(out, a, tellings::of_redirect(redirect));
     put_row(out, b, tellings::END, 0)
 }

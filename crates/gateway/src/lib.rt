@@ -1,10 +1,11 @@
-// The gateway's router: document 02, [4]. It has a cached map of the slots' owners, and lookups that each go their own way over it.
+// The gateway's router: document 02, [4] and [5]. It has a cached map, the slots' owners and how new each of them is, and lookups
+// that each go their own way over it.
 // Of a node it knows what `routing` promises, and nothing else.
 ghost use mathlib.Core.Path.{_≡_};
-ghost use lib.ListN.{length};
 ghost use Rattle.routing.specs.Replies.{reply};
 ghost use Rattle.lookups.specs.Keys.{slotOf};
-ghost use Rattle.gateway.specs.Gateway.{noRoster, firstAsked, entryAt, firstStage, started, turn, namedSlot, learn, taken, withAsking, asked};
+ghost use Rattle.cache.specs.Cache.{mapOf, wrongLength, entryAt, heldEpoch};
+ghost use Rattle.gateway.specs.Gateway.{noRoster, firstAsked, firstStage, started, turn, namedSlot, learn, taken, withAsking, asked};
 use lookups::End;
 use lookups::Key;
 use lookups::Learned;
@@ -31,19 +32,19 @@ fn no_roster(size: u16) -> bool
 // ---- a lookup starts
 
 // The cached owner, or node 0 if there is none.
-fn first_asked(size: u16, entry: u16) -> u16
-    ensures { λ r. ⌜ r ≡ firstAsked size entry ⌝ }
+fn first_asked(size: u16, owner: u16) -> u16
+    ensures { λ r. ⌜ r ≡ firstAsked size owner ⌝ }
 {
-    if entry < size {
-        return entry;
+    if owner < size {
+        return owner;
     }
     0
 }
 
-fn first_stage(map: &[u16], size: u16, key: Key) -> Stage
-    ensures { λ r. ⌜ r ≡ firstStage (length (now (map .entry))) (entryAt (now (map .entry)) (slotOf key)) size key ⌝ }
+fn first_stage(map: &[u16], epochs: &[u64], size: u16, key: Key) -> Stage
+    ensures { λ r. ⌜ r ≡ firstStage (wrongLength (mapOf (now (map .entry)) (now (epochs .entry)))) (entryAt (mapOf (now (map .entry)) (now (epochs .entry))) (slotOf key) .owner) size key ⌝ }
 {
-    if map.len() != tables::SLOTS as usize {
+    if cache::wrong_length(map, epochs) {
         return Stage::Ended(End::Refused(1));
     }
     if no_roster(size) {
@@ -54,42 +55,24 @@ fn first_stage(map: &[u16], size: u16, key: Key) -> Stage
     }
     let slot = lookups::slot(key);
     Stage::Asking(Question {
-        node: first_asked(size, map[slot as usize]),
+        node: first_asked(size, cache::owner_at(map, slot)),
         asking: false,
         hops: 0,
     })
 }
 
-// A household's lookup of a key, with a map of the slots' owners and a roster of that size.
-pub fn start(map: &[u16], size: u16, household: u64, key: Key) -> Lookup
-    ensures { λ r. ⌜ r ≡ started (now (map .entry)) size household key ⌝ }
+// A household's lookup of a key, with a map of the slots' owners and their epochs, and a roster of that size.
+pub fn start(map: &[u16], epochs: &[u64], size: u16, household: u64, key: Key) -> Lookup
+    ensures { λ r. ⌜ r ≡ started (mapOf (now (map .entry)) (now (epochs .entry))) size household key ⌝ }
 {
     Lookup {
         household,
         key,
-        stage: first_stage(map, size, key),
+        stage: first_stage(map, epochs, size, key),
     }
 }
 
 // ---- a reply arrives
-
-// What a reply does at a stage, with a map of so many entries.
-fn turn(entries: usize, size: u16, key: Key, stage: Stage, redirect: Redirect) -> Turn
-    ensures { λ r. ⌜ r ≡ turn entries size (slotOf key) stage (reply redirect) ⌝ }
-{
-    match stage {
-        Stage::Ended(_) => lookups::turns(stage),
-        Stage::Asking(question) => {
-            if entries != tables::SLOTS as usize {
-                return lookups::ends(End::Refused(1));
-            }
-            if no_roster(size) {
-                return lookups::ends(End::Refused(3));
-            }
-            lookups::heard(size, key, question, redirect)
-        }
-    }
-}
 
 // The slot that a redirection names. One that is followed names the key's, so that need not be computed again.
 fn named(redirect: Redirect) -> u16
@@ -101,34 +84,60 @@ fn named(redirect: Redirect) -> u16
         Redirect::Down => 0,
         Redirect::Serve => 0,
         Redirect::Ask { slot, peer: _ } => slot,
-        Redirect::Moved { slot, owner: _ } => slot,
+        Redirect::Moved {
+            slot,
+            owner: _,
+            epoch: _,
+        } => slot,
     }
 }
 
-// What was learned goes into the slot's entry.
-fn learn(map: &mut [u16], slot: u16, learned: Learned)
-    ensures { λ _. ⌜ now (map .exit) ≡ learn (now (map .entry)) slot learned ⌝ }
+// What a reply does at a stage. It is held against the entry of the slot that it names: one that names another than the key's is
+// bad whatever stands there.
+fn turn(map: &[u16], epochs: &[u64], size: u16, key: Key, stage: Stage, redirect: Redirect) -> Turn
+    ensures { λ r. ⌜ r ≡ turn (wrongLength (mapOf (now (map .entry)) (now (epochs .entry)))) size (slotOf key) (heldEpoch size (entryAt (mapOf (now (map .entry)) (now (epochs .entry))) (slotOf key))) stage (reply redirect) ⌝ }
 {
-    match learned {
-        Learned::Nothing => {}
-        Learned::Owner(owner) => {
-            if (slot as usize) < map.len() {
-                map[slot as usize] = owner;
+    match stage {
+        Stage::Ended(_) => lookups::turns(stage),
+        Stage::Asking(question) => {
+            if cache::wrong_length(map, epochs) {
+                return lookups::ends(End::Refused(1));
             }
+            if no_roster(size) {
+                return lookups::ends(End::Refused(3));
+            }
+            let held = cache::held_epoch(map, epochs, size, named(redirect));
+            lookups::heard(size, key, held, question, redirect)
         }
     }
 }
 
+// What was learned goes into the slot's entry.
+fn learn(map: &mut [u16], epochs: &mut [u64], slot: u16, learned: Learned)
+    ensures { λ _. ⌜ mapOf (now (map .exit)) (now (epochs .exit)) ≡ learn (mapOf (now (map .entry)) (now (epochs .entry))) slot learned ⌝ }
+{
+    match learned {
+        Learned::Nothing => {}
+        Learned::Owner { owner, epoch } => cache::enter(map, epochs, slot, owner, epoch),
+    }
+}
+
 // A lookup takes the reply of the node that it asked.
-pub fn take(lookup: Lookup, map: &mut [u16], size: u16, redirect: Redirect) -> Lookup
-    ensures { λ r. ⌜ record { lookup = r; map = now (map .exit) } ≡ taken lookup (now (map .entry)) size (reply redirect) ⌝ }
+pub fn take(
+    lookup: Lookup,
+    map: &mut [u16],
+    epochs: &mut [u64],
+    size: u16,
+    redirect: Redirect,
+) -> Lookup
+    ensures { λ r. ⌜ record { lookup = r; map = mapOf (now (map .exit)) (now (epochs .exit)) } ≡ taken lookup (mapOf (now (map .entry)) (now (epochs .entry))) size (reply redirect) ⌝ }
 {
     let key = lookup.key;
     let stage = lookup.stage;
-    let turn = turn(map.len(), size, key, stage, redirect);
+    let turn = turn(map, epochs, size, key, stage, redirect);
     let next = turn.stage;
     let learned = turn.learned;
-    learn(map, named(redirect), learned);
+    learn(map, epochs, named(redirect), learned);
     lookups::at(lookup, next)
 }
 
@@ -148,12 +157,13 @@ fn with_asking(stage: Stage) -> bool
 pub fn ask(
     lookup: Lookup,
     map: &mut [u16],
+    epochs: &mut [u64],
     size: u16,
     node: Node,
     slots: &[u16],
     present: bool,
 ) -> Lookup
-    ensures { λ r. ⌜ record { lookup = r; map = now (map .exit) } ≡ asked lookup (now (map .entry)) size node (now (slots .entry)) present ⌝ }
+    ensures { λ r. ⌜ record { lookup = r; map = mapOf (now (map .exit)) (now (epochs .exit)) } ≡ asked lookup (mapOf (now (map .entry)) (now (epochs .entry))) size node (now (slots .entry)) present ⌝ }
 {
     let stage = lookup.stage;
     let key = lookup.key;
@@ -166,5 +176,5 @@ pub fn ask(
         present,
         asking,
     );
-    take(lookup, map, size, redirect)
+    take(lookup, map, epochs, size, redirect)
 }

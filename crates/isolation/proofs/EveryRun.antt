@@ -3,7 +3,6 @@ use Prim.Native.Nat.{ℕ, _+_, _≤_}
 use mathlib.Core.Path.{_≡_, refl, ap, _∙_}
 use mathlib.Core.Bool.{Bool, false}
 use mathlib.Core.List.{List, [], _∷_}
-use lib.ListN.{length}
 use native.Mathlib.Omega.{arith}
 use borrow.Author.Tests.{eq-eqb}
 use Rattle.routing.specs.Replies.{Reply}
@@ -14,7 +13,8 @@ use Rattle.lookups.specs.declared.End.the-variants.{Refused}
 use Rattle.lookups.specs.declared.Stage.{Stage}
 use Rattle.lookups.specs.declared.Stage.the-variants.{Asking, Ended}
 use Rattle.lookups.specs.declared.Turn.{Turn}
-use Rattle.gateway.specs.Gateway.{entryAt, startChecks, firstAsked, firstStage, turn, started, taken}
+use Rattle.cache.specs.Cache.{Map, entryAt, heldEpoch, wrongLength}
+use Rattle.gateway.specs.Gateway.{startChecks, firstAsked, firstStage, turn, started, taken}
 use Rattle.isolation.specs.Runs.{Event, Happening, starts, hears, Progress, unstarted, reached, becomes, after}
 use Rattle.isolation.specs.Isolation.{just}
 use Rattle.isolation.specs.EveryRun.{carried, comes, cameIn, asks, asksNow, sinceStart, questions, NoneOn, EveryRun}
@@ -23,13 +23,13 @@ use Rattle.isolation.proofs.Runs.{by-events, all-on, leaves-others}
 
 -- ---- household and key
 
-carries-on : (size : ℕ) (map : List ℕ) (h : Progress) (w : Happening) → carried (becomes size map h w) ≡ comes w (carried h)
+carries-on : (size : ℕ) (map : Map) (h : Progress) (w : Happening) → carried (becomes size map h w) ≡ comes w (carried h)
 unfolding started taken
 carries-on size map h (starts household key) = refl
 carries-on size map unstarted (hears r) = refl
 carries-on size map (reached l) (hears r) = refl
 
-carries : (size : ℕ) (map : List ℕ) (i : ℕ) (run : List Event) → carried (after size map run .lookups i) ≡ cameIn i run
+carries : (size : ℕ) (map : Map) (i : ℕ) (run : List Event) → carried (after size map run .lookups i) ≡ cameIn i run
 unfolding cameIn
 carries size map i = by-events size map i (λ run p. carried p ≡ cameIn i run) refl
     (λ e es t r. rw t (carries-on size (after size map es .map) (after size map es .lookups i) (e .what) ∙ ap (comes (e .what)) r))
@@ -42,32 +42,32 @@ abbrev Few : Stage → ℕ → Type 0
 Few (Asking q) n = (n ≡ q .hops + 1) × (q .hops ≤ 4)
 Few (Ended end) n = n ≤ 5
 
-firstStage-few : (entries entry size : ℕ) (key : Key) → Few (firstStage entries entry size key) (asks (firstStage entries entry size key))
-firstStage-few entries entry size key =
-    through (λ (stage : Stage). Few stage (asks stage)) (λ (n : ℕ). Ended (Refused n)) (startChecks entries size key) (Asking (record { node = firstAsked size entry; asking = false; hops = 0 }))
+firstStage-few : (wrong : Bool) (owner size : ℕ) (key : Key) → Few (firstStage wrong owner size key) (asks (firstStage wrong owner size key))
+firstStage-few wrong owner size key =
+    through (λ (stage : Stage). Few stage (asks stage)) (λ (n : ℕ). Ended (Refused n)) (startChecks wrong size key) (Asking (record { node = firstAsked size owner; asking = false; hops = 0 }))
     ((λ e. omega arith), ((λ e. omega arith), ((λ e. omega arith), tt))) (λ f. (refl, omega arith))
 
-comes-few : (size s n : ℕ) (q : Question) (r : Reply) {t : Turn} → Comes size s q r t → Few (Asking q) n → Few (t .stage) (asks (t .stage) + n)
-comes-few size s n q r (ended end why) f = omega (arith, f .0, f .1)
-comes-few size s n q r (sent peer h) f = (omega (arith, f .0), omega arith)
-comes-few size s n q r (moves owner m i h) f = (omega (arith, f .0), omega arith)
+comes-few : (size s held n : ℕ) (q : Question) (r : Reply) {t : Turn} → Comes size s held q r t → Few (Asking q) n → Few (t .stage) (asks (t .stage) + n)
+comes-few size s held n q r (ended end why) f = omega (arith, f .0, f .1)
+comes-few size s held n q r (sent peer h) f = (omega (arith, f .0), omega arith)
+comes-few size s held n q r (moves owner epoch m i h o) f = (omega (arith, f .0), omega arith)
 
-turn-few : (entries size s n : ℕ) (stage : Stage) (r : Reply) → Few stage n → Few (turn entries size s stage r .stage) (asks (turn entries size s stage r .stage) + n)
+turn-few : (wrong : Bool) (size s held n : ℕ) (stage : Stage) (r : Reply) → Few stage n → Few (turn wrong size s held stage r .stage) (asks (turn wrong size s held stage r .stage) + n)
 unfolding turn
-turn-few entries size s n (Asking q) r f = comes-few size s n q r (turn-comes size s q entries r) f
-turn-few entries size s n (Ended end) r f = omega (arith, f)
+turn-few wrong size s held n (Asking q) r f = comes-few size s held n q r (turn-comes size s held q wrong r) f
+turn-few wrong size s held n (Ended end) r f = omega (arith, f)
 
 abbrev FewOf : Progress → ℕ → Type 0
 FewOf unstarted n = n ≤ 5
 FewOf (reached l) n = Few (l .stage) n
 
-becomes-few : (size n : ℕ) (map : List ℕ) (h : Progress) (w : Happening) → FewOf h n → FewOf (becomes size map h w) (sinceStart w (asksNow (becomes size map h w)) n)
+becomes-few : (size n : ℕ) (map : Map) (h : Progress) (w : Happening) → FewOf h n → FewOf (becomes size map h w) (sinceStart w (asksNow (becomes size map h w)) n)
 unfolding started taken
-becomes-few size n map h (starts household key) f = firstStage-few (length map) (entryAt map (slotOf key)) size key
+becomes-few size n map h (starts household key) f = firstStage-few (wrongLength map) (entryAt map (slotOf key) .owner) size key
 becomes-few size n map unstarted (hears r) f = omega arith
-becomes-few size n map (reached l) (hears r) f = turn-few (length map) size (slotOf (l .key)) n (l .stage) r f
+becomes-few size n map (reached l) (hears r) f = turn-few (wrongLength map) size (slotOf (l .key)) (heldEpoch size (entryAt map (slotOf (l .key)))) n (l .stage) r f
 
-all-few : (size : ℕ) (map : List ℕ) (i : ℕ) (run : List Event) → FewOf (after size map run .lookups i) (questions size map i run)
+all-few : (size : ℕ) (map : Map) (i : ℕ) (run : List Event) → FewOf (after size map run .lookups i) (questions size map i run)
 unfolding after questions
 all-few size map i = by-events size map i (λ run p. FewOf p (questions size map i run)) (omega arith)
     (λ e es t f. rw t (becomes-few size (questions size map i es) (after size map es .map) (after size map es .lookups i) (e .what) f))
@@ -83,7 +83,7 @@ few (reached l) n f = by (l .stage) f
 
 -- ---- a slot that no lookup is on
 
-untouched : (size : ℕ) (map : List ℕ) (run : List Event) (s : ℕ) → NoneOn s run → entryAt (after size map run .map) s ≡ entryAt map s
+untouched : (size : ℕ) (map : Map) (run : List Event) (s : ℕ) → NoneOn s run → entryAt (after size map run .map) s ≡ entryAt map s
 unfolding after
 untouched size map [] s o = refl
 untouched size map (e ∷ es) s o =
@@ -93,7 +93,7 @@ untouched size map (e ∷ es) s o =
     nobody : ℕ → Bool
     nobody i = false
 
-pub every-run : (size : ℕ) (map : List ℕ) (run : List Event) → EveryRun size map run
+pub every-run : (size : ℕ) (map : Map) (run : List Event) → EveryRun size map run
 every-run size map run = record {
   carries = λ i. carries size map i run;
   five = λ i. few (after size map run .lookups i) (questions size map i run) (all-few size map i run);

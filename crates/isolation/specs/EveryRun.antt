@@ -1,4 +1,4 @@
--- What holds of every run (02, [4]), whatever slots its lookups are on.
+-- What holds of every run (02, [4] and [5]), whatever slots its lookups are on.
 use Prim.Native.Nat.{ℕ, _+_, _≤_}
 use mathlib.Core.Path.{_≡_}
 use mathlib.Core.Bool.{false, cond}
@@ -7,7 +7,7 @@ use lib.Dec.{eqb}
 use Rattle.lookups.specs.declared.Key.{Key}
 use Rattle.lookups.specs.declared.Stage.{Stage}
 use Rattle.lookups.specs.declared.Stage.the-variants.{Asking, Ended}
-use Rattle.gateway.specs.Gateway.{entryAt}
+use Rattle.cache.specs.Cache.{Map, entryAt}
 use Rattle.isolation.specs.Runs.{Event, Happening, starts, hears, Progress, unstarted, reached, after}
 use Rattle.isolation.specs.Isolation.{just, Apart}
 
@@ -47,7 +47,7 @@ abbrev pub sinceStart : Happening → ℕ → ℕ → ℕ
 sinceStart (starts household key) now before = now
 sinceStart (hears r) now before = now + before
 
-module _ (size : ℕ) (map : List ℕ) where
+module _ (size : ℕ) (map : Map) where
   unfoldable pub questions : ℕ → List Event → ℕ
   questions i [] = 0
   questions i (e ∷ es) =
@@ -59,7 +59,7 @@ module _ (size : ℕ) (map : List ℕ) where
 abbrev pub NoneOn : ℕ → List Event → Type 0
 NoneOn s run = Apart (just s) (λ (i : ℕ). false) run
 
-pub record EveryRun (size : ℕ) (map : List ℕ) (run : List Event) : Type 0 where
+pub record EveryRun (size : ℕ) (map : Map) (run : List Event) : Type 0 where
   -- what comes out carries the household and the key that went in
   pub carries : (i : ℕ) → carried (after size map run .lookups i) ≡ cameIn i run
   -- a lookup asks at most five questions from its start on

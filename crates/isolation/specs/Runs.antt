@@ -1,4 +1,4 @@
--- Runs of the gateway (02, [4]): lookups of any households, started and replied to in any order, over one cached map.
+-- Runs of the gateway (02, [4] and [5]): lookups of any households, started and replied to in any order, over one cached map.
 use Prim.Native.Nat.{ℕ}
 use mathlib.Core.Bool.{cond}
 use mathlib.Core.List.{List, [], _∷_}
@@ -6,6 +6,7 @@ use lib.Dec.{eqb}
 use Rattle.routing.specs.Replies.{Reply}
 use Rattle.lookups.specs.declared.Key.{Key}
 use Rattle.lookups.specs.declared.Lookup.{Lookup}
+use Rattle.cache.specs.Cache.{Map}
 use Rattle.gateway.specs.Gateway.{started, taken}
 
 -- what happens to a lookup: it starts, for a household and a key, or a reply to it arrives
@@ -25,17 +26,17 @@ pub data Progress : Type 0 where
 
 -- the map, and each lookup by its number
 pub record Gateway : Type 0 where
-  pub map : List ℕ
+  pub map : Map
   pub lookups : ℕ → Progress
 
 -- what becomes of the lookup, by the promises of `start` and `take`; a reply to one that never started goes nowhere
-abbrev pub becomes : ℕ → List ℕ → Progress → Happening → Progress
+abbrev pub becomes : ℕ → Map → Progress → Happening → Progress
 becomes size map p (starts household key) = reached (started map size household key)
 becomes size map unstarted (hears r) = unstarted
 becomes size map (reached l) (hears r) = reached (taken l map size r .lookup)
 
 -- and of the map
-abbrev pub leaves : ℕ → List ℕ → Progress → Happening → List ℕ
+abbrev pub leaves : ℕ → Map → Progress → Happening → Map
 leaves size map p (starts household key) = map
 leaves size map unstarted (hears r) = map
 leaves size map (reached l) (hears r) = taken l map size r .map
@@ -47,7 +48,7 @@ step size g e = record {
 }
 
 -- A run lists its events, the latest first. With a roster of that size, from any map and no lookup:
-module _ (size : ℕ) (map : List ℕ) where
+module _ (size : ℕ) (map : Map) where
   -- the gateway after the run
   unfoldable pub after : List Event → Gateway
   after [] = record { map = map; lookups = λ (i : ℕ). unstarted }

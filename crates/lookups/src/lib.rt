@@ -1,4 +1,5 @@
-// One household's lookup of one key, and what a node's reply makes of it: document 02, [4]. The gateway's map is not seen here.
+// One household's lookup of one key, and what a node's reply makes of it: document 02, [4] and [5]. The gateway's map is not seen
+// here.
 ghost use mathlib.Core.Path.{_≡_};
 ghost use lib.ListN.{length};
 ghost use Rattle.routing.specs.Replies.{reply};
@@ -37,6 +38,8 @@ pub enum End {
     Declined(u8),
     // A fifth redirection.
     TooMany,
+    // A MOVED was older than the cached entry.
+    Stale,
     // The gateway refused, with that number.
     Refused(u8),
 }
@@ -57,7 +60,8 @@ pub struct Lookup {
 // What a reply says of who owns the key's slot.
 pub enum Learned {
     Nothing,
-    Owner(u16),
+    // And how new that is: the owner's configEpoch.
+    Owner { owner: u16, epoch: u64 },
 }
 
 // What a reply does: the lookup's next stage, and what is learned for the map.
@@ -134,17 +138,18 @@ pub fn at(lookup: Lookup, stage: Stage) -> Lookup
     }
 }
 
-// A redirection: bad, then a fifth, else followed. The slot is computed here, where it is needed.
+// A redirection: bad, then a fifth, then stale, else followed. The slot is computed here, where it is needed.
 fn sent_on(
     size: u16,
     key: Key,
     hops: u8,
     named: u16,
     node: u16,
+    stale: bool,
     asking: bool,
     learned: Learned,
 ) -> Turn
-    ensures { λ r. ⌜ r ≡ sentOn size (slotOf key) hops named node asking learned ⌝ }
+    ensures { λ r. ⌜ r ≡ sentOn size (slotOf key) hops named node stale asking learned ⌝ }
 {
     let slot = slot(key);
     if named != slot {
@@ -156,6 +161,9 @@ fn sent_on(
     if hops >= HOPS {
         return ends(End::TooMany);
     }
+    if stale {
+        return ends(End::Stale);
+    }
     Turn {
         stage: Stage::Asking(Question {
             node,
@@ -166,9 +174,9 @@ fn sent_on(
     }
 }
 
-// What the reply to a question does to a lookup of that key.
-pub fn heard(size: u16, key: Key, question: Question, redirect: Redirect) -> Turn
-    ensures { λ r. ⌜ r ≡ heard size (slotOf key) question (reply redirect) ⌝ }
+// What the reply to a question does to a lookup of that key, whose slot's cached entry has the epoch `held`.
+pub fn heard(size: u16, key: Key, held: u64, question: Question, redirect: Redirect) -> Turn
+    ensures { λ r. ⌜ r ≡ heard size (slotOf key) held question (reply redirect) ⌝ }
 {
     let hops = question.hops;
     match redirect {
@@ -182,17 +190,23 @@ pub fn heard(size: u16, key: Key, question: Question, redirect: Redirect) -> Tur
             hops,
             named,
             peer,
+            false,
             true,
             Learned::Nothing,
         ),
-        Redirect::Moved { slot: named, owner } => sent_on(
+        Redirect::Moved {
+            slot: named,
+            owner,
+            epoch,
+        } => sent_on(
             size,
             key,
             hops,
             named,
             owner,
+            epoch < held,
             false,
-            Learned::Owner(owner),
+            Learned::Owner { owner, epoch },
         ),
     }
 }

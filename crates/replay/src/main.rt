@@ -160,10 +160,24 @@ fn fewer(turns: u64, source: Source) -> u64
     turns - 1
 }
 
+// Each win of a run, behind all else that is told.
+fn finish(out: &mut [u8], run: Run) {
+    let wins = run.wins;
+    let end = tellings::put_wins(out, run.at, &wins, run.won);
+    lines::flush(out, end);
+}
+
 // The lines of a run, and its summary. The nodes and their tables stand here, and each line takes out those that it is about; a
-// lookup goes over all of them, and changes the gateway's map alone. The list is lent to each as it is: what is read of it was
-// written by the same line.
-fn play_lines(begin: Source, buf: &mut [u8], list: &mut [u16], map: &mut [u16], out: &mut [u8]) {
+// lookup goes over all of them, and changes the gateway's map and its epochs alone. The list is lent to each as it is: what is
+// read of it was written by the same line.
+fn play_lines(
+    begin: Source,
+    buf: &mut [u8],
+    list: &mut [u16],
+    map: &mut [u16],
+    epochs: &mut [u64],
+    out: &mut [u8],
+) {
     let mut slots = [tables::UNOWNED; ALL_SLOTS];
     let mut times = [0u64; ALL_REPORTS];
     let mut seats = [seats::newcomer(0, 0); ROOM];
@@ -171,6 +185,7 @@ fn play_lines(begin: Source, buf: &mut [u8], list: &mut [u16], map: &mut [u16], 
     let mut source = begin;
     let mut turns = u64::MAX;
     while turns > 0 {
+        run.at = lines::drained(out, run.at, FULL);
         source = sources::next_line(buf, source, run.handed);
         turns = fewer(turns, source);
         let heard = runs::hear(call_of(source), source.count, run, out);
@@ -187,24 +202,22 @@ fn play_lines(begin: Source, buf: &mut [u8], list: &mut [u16], map: &mut [u16], 
             k += 1;
         }
         if call.form != calls::LOOKUP {
-            run.at = lines::drained(out, run.at, FULL);
             continue;
         }
-        let at = walks::look_up(map, run.size, seats, &slots, source, call, out, run.at);
-        run.at = lines::drained(out, at, FULL);
+        let at = run.at;
+        run.at = walks::look_up(map, epochs, run.size, seats, &slots, source, call, out, at);
     }
-    let wins = run.wins;
-    let end = tellings::put_wins(out, run.at, &wins, run.won);
-    lines::flush(out, end);
+    finish(out, run);
 }
 
-// A run. The list, the gateway's map, which has no entry yet, and the room for what is told stand here: in the function with the
-// loop every step of its proof would compute with their lengths.
+// A run. The list, the gateway's map, which has no entry yet, the epochs beside its entries, and the room for what is told stand
+// here: in the function with the loop every step of its proof would compute with their lengths.
 fn play(begin: Source, buf: &mut [u8]) {
     let mut list = [0u16; LIST];
     let mut map = [tables::UNOWNED; SLOTS];
+    let mut epochs = [0u64; SLOTS];
     let mut out = [0u8; TEXT];
-    play_lines(begin, buf, &mut list, &mut map, &mut out);
+    play_lines(begin, buf, &mut list, &mut map, &mut epochs, &mut out);
 }
 
 // ---- files

@@ -27,7 +27,7 @@ use Rattle.marks.specs.declared.Marking.the-variants.{Unmarked, Moving}
 use Rattle.routing.specs.declared.Redirect.{Redirect}
 use Rattle.routing.specs.declared.Redirect.the-variants.{WrongLength, Unsound, Down, Serve, Ask, Moved}
 use Rattle.marks.specs.Marks.{marksOf, markingAt, ownerAt, isOwn}
-use Rattle.routing.specs.Replies.{Reply, refused, down, serve, ask, moved, reply, isEntry, atHome, elsewhere, redirected, routed, isTaken, Exactly, MovedNames, AskNames, Redirections, ReplySettles}
+use Rattle.routing.specs.Replies.{Reply, refused, down, serve, ask, moved, reply, isEntry, atHome, elsewhere, knownEpoch, redirected, routed, isTaken, Exactly, MovedNames, AskNames, Redirections, ReplySettles}
 use Rattle.marks.proofs.Lists.{found-holds}
 use Rattle.marks.proofs.Kept.{any, all-sound}
 
@@ -38,7 +38,7 @@ case (refused k) = cond (eqb k 1) WrongLength Unsound
 case down = Down
 case serve = Serve
 case (ask s p) = Ask s p
-case (moved s o) = Moved s o
+case (moved s o e) = Moved s o e
 
 case-of : (r : Redirect) → case (reply r) ≡ r
 case-of WrongLength = refl
@@ -46,7 +46,7 @@ case-of Unsound = refl
 case-of Down = refl
 case-of Serve = refl
 case-of (Ask s p) = refl
-case-of (Moved s o) = refl
+case-of (Moved s o e) = refl
 
 pub reply-settles : (a b : Redirect) → ReplySettles a b
 reply-settles a b e = sym (case-of a) ∙ ap case e ∙ case-of b
@@ -70,18 +70,18 @@ taken true n = by (sound n)
 abbrev sent : Reply → Check → Reply
 sent = onCheck (λ a. refused (number a))
 
-by-cases : (c : Check) (owned own present asking : Bool) (marking : Marking) (s o : ℕ)
-    → Exactly (passes c) owned own present asking marking (sent (cond (not owned) down (cond own (atHome s present marking) (elsewhere s o asking marking))) c)
-by-cases (Refused r) owned own p a m s o = record { refused = refl; down = refl; ask = refl; moved = refl; serve = refl }
-by-cases Passed false own p a m s o = record { refused = refl; down = refl; ask = refl; moved = refl; serve = refl }
-by-cases Passed true true p a Unmarked s o = record { refused = refl; down = refl; ask = refl; moved = refl; serve = refl }
-by-cases Passed true true true a (Moving (Migrating q)) s o = record { refused = refl; down = refl; ask = refl; moved = refl; serve = refl }
-by-cases Passed true true false a (Moving (Migrating q)) s o = record { refused = refl; down = refl; ask = refl; moved = refl; serve = refl }
-by-cases Passed true true p a (Moving (Importing q)) s o = record { refused = refl; down = refl; ask = refl; moved = refl; serve = refl }
-by-cases Passed true false p a Unmarked s o = record { refused = refl; down = refl; ask = refl; moved = refl; serve = refl }
-by-cases Passed true false p a (Moving (Migrating q)) s o = record { refused = refl; down = refl; ask = refl; moved = refl; serve = refl }
-by-cases Passed true false p true (Moving (Importing q)) s o = record { refused = refl; down = refl; ask = refl; moved = refl; serve = refl }
-by-cases Passed true false p false (Moving (Importing q)) s o = record { refused = refl; down = refl; ask = refl; moved = refl; serve = refl }
+by-cases : (c : Check) (owned own present asking : Bool) (marking : Marking) (s o e : ℕ)
+    → Exactly (passes c) owned own present asking marking (sent (cond (not owned) down (cond own (atHome s present marking) (elsewhere s o e asking marking))) c)
+by-cases (Refused r) owned own p a m s o e = record { refused = refl; down = refl; ask = refl; moved = refl; serve = refl }
+by-cases Passed false own p a m s o e = record { refused = refl; down = refl; ask = refl; moved = refl; serve = refl }
+by-cases Passed true true p a Unmarked s o e = record { refused = refl; down = refl; ask = refl; moved = refl; serve = refl }
+by-cases Passed true true true a (Moving (Migrating q)) s o e = record { refused = refl; down = refl; ask = refl; moved = refl; serve = refl }
+by-cases Passed true true false a (Moving (Migrating q)) s o e = record { refused = refl; down = refl; ask = refl; moved = refl; serve = refl }
+by-cases Passed true true p a (Moving (Importing q)) s o e = record { refused = refl; down = refl; ask = refl; moved = refl; serve = refl }
+by-cases Passed true false p a Unmarked s o e = record { refused = refl; down = refl; ask = refl; moved = refl; serve = refl }
+by-cases Passed true false p a (Moving (Migrating q)) s o e = record { refused = refl; down = refl; ask = refl; moved = refl; serve = refl }
+by-cases Passed true false p true (Moving (Importing q)) s o e = record { refused = refl; down = refl; ask = refl; moved = refl; serve = refl }
+by-cases Passed true false p false (Moving (Importing q)) s o e = record { refused = refl; down = refl; ask = refl; moved = refl; serve = refl }
 
 exactly : (n : Node) (slots key : List ℕ) (present asking : Bool)
     → Exactly (isTaken n slots) (listed n (ownerAt slots (keySlot key))) (isOwn n slots (keySlot key)) present asking (markingAt n (keySlot key)) (routed n slots key present asking)
@@ -90,7 +90,7 @@ exactly n slots key p a =
     let s = keySlot key in let o = ownerAt slots s in let m = markingAt n s in let l = eqb (length slots) slotCount in
     let rows = entryChecks l n in let c = checked Refused rows Passed in let rest = redirected n slots s p a in
     subst (λ (t : Bool). Exactly t (listed n o) (isOwn n slots s) p a m (checked (λ b. refused (number b)) rows rest)) (taken l n)
-    (subst (λ (r : Reply). Exactly (passes c) (listed n o) (isOwn n slots s) p a m r) (sym (by-check (λ b. refused (number b)) rows rest)) (by-cases c (listed n o) (isOwn n slots s) p a m s o))
+    (subst (λ (r : Reply). Exactly (passes c) (listed n o) (isOwn n slots s) p a m r) (sym (by-check (λ b. refused (number b)) rows rest)) (by-cases c (listed n o) (isOwn n slots s) p a m s o (knownEpoch n o)))
 
 -- ---- a refusal is 1 or 7
 
@@ -119,7 +119,7 @@ module _ (n : Node) (slots key : List ℕ) where
   Names down = Unit
   Names serve = Unit
   Names (ask s p) = AskNames n slots key s p
-  Names (moved s o) = MovedNames n slots key s o
+  Names (moved s o e) = MovedNames n slots key s o e
 
   abbrev s : ℕ
   s = keySlot key
@@ -134,18 +134,18 @@ module _ (n : Node) (slots key : List ℕ) where
       let a = peer-another n h s (Migrating peer) q in record { key's = refl; own = e; mark's = q; inRoster = a .0; another = a .1 }
   homes h e p (Moving (Importing peer)) q = tt
 
-  aways : owner < n .size → (owner ≡ n .me → ⊥) → (asking : Bool) (m : Marking) → Names (elsewhere s owner asking m)
-  aways l d a Unmarked = record { key's = refl; owner's = refl; inRoster = l; another = d }
-  aways l d a (Moving (Migrating peer)) = record { key's = refl; owner's = refl; inRoster = l; another = d }
+  aways : owner < n .size → (owner ≡ n .me → ⊥) → (asking : Bool) (m : Marking) → Names (elsewhere s owner (knownEpoch n owner) asking m)
+  aways l d a Unmarked = record { key's = refl; owner's = refl; owner's-epoch = refl; inRoster = l; another = d }
+  aways l d a (Moving (Migrating peer)) = record { key's = refl; owner's = refl; owner's-epoch = refl; inRoster = l; another = d }
   aways l d true (Moving (Importing peer)) = tt
-  aways l d false (Moving (Importing peer)) = record { key's = refl; owner's = refl; inRoster = l; another = d }
+  aways l d false (Moving (Importing peer)) = record { key's = refl; owner's = refl; owner's-epoch = refl; inRoster = l; another = d }
 
   names : (present asking : Bool) → Names (routed n slots key present asking)
   unfolding routed
   names p a = past Names any (λ b. refused (number b)) (entryChecks (eqb (length slots) slotCount) n) (redirected n slots s p a) refl (λ b q. tt) (λ f.
       by (not-false (sound n) (f 7)) (listed n owner) refl (isOwn n slots s) refl)
     where
-      by : sound n ≡ true → (t : Bool) → t ≡ listed n owner → (o : Bool) → o ≡ isOwn n slots s → Names (cond (not t) down (cond o (atHome s p (markingAt n s)) (elsewhere s owner a (markingAt n s))))
+      by : sound n ≡ true → (t : Bool) → t ≡ listed n owner → (o : Bool) → o ≡ isOwn n slots s → Names (cond (not t) down (cond o (atHome s p (markingAt n s)) (elsewhere s owner (knownEpoch n owner) a (markingAt n s))))
       by h false e o g = tt
       by h true e true g = homes h (eqb-true owner (n .me) (sym g)) p (markingAt n s) refl
       by h true e false g = aways (ltb-true owner (n .size) (sym e)) (eqb-false owner (n .me) (sym g)) a (markingAt n s)
@@ -153,6 +153,6 @@ module _ (n : Node) (slots key : List ℕ) where
 pub redirections : (n : Node) (slots key : List ℕ) (present asking : Bool) → Redirections n slots key present asking
 redirections n slots key p a = record {
   exactly = exactly n slots key p a;
-  moved-names = λ t o e. subst (Names n slots key) e (names n slots key p a);
+  moved-names = λ t o epoch e. subst (Names n slots key) e (names n slots key p a);
   ask-names = λ t peer e. subst (Names n slots key) e (names n slots key p a);
 }

@@ -1,10 +1,10 @@
-// Where a key goes: document 01, "Redirections".
+// Where a key goes: document 01, "Redirections", with the fuller MOVED of document 02, [5].
 ghost use mathlib.Core.Path.{_≡_};
 ghost use mathlib.Core.Bool.{true};
 ghost use Prim.Native.Nat.{_<_};
 ghost use lib.ListN.{length};
 ghost use Rattle.answers.specs.Answers.{number};
-ghost use Rattle.routing.specs.Replies.{reply, refused, isEntry, isImporting, atHome, elsewhere, redirected, routed};
+ghost use Rattle.routing.specs.Replies.{reply, refused, isEntry, isImporting, atHome, elsewhere, knownEpoch, redirected, routed};
 use answers::Answer;
 use answers::Check;
 use marks::Marking;
@@ -20,8 +20,8 @@ pub enum Redirect {
     Serve,
     // This once, ask the node that the slot migrates to.
     Ask { slot: u16, peer: u16 },
-    // The slot is that node's.
-    Moved { slot: u16, owner: u16 },
+    // The slot is that node's; its known configEpoch says how new that is.
+    Moved { slot: u16, owner: u16, epoch: u64 },
 }
 
 // A refusal: 1 or 7.
@@ -67,16 +67,28 @@ fn at_home(slot: u16, present: bool, marking: Marking) -> Redirect
 }
 
 // A slot of another's: who was sent here by an ASK is served.
-fn elsewhere(slot: u16, owner: u16, asking: bool, marking: Marking) -> Redirect
-    ensures { λ r. ⌜ reply r ≡ elsewhere slot owner asking marking ⌝ }
+fn elsewhere(slot: u16, owner: u16, epoch: u64, asking: bool, marking: Marking) -> Redirect
+    ensures { λ r. ⌜ reply r ≡ elsewhere slot owner epoch asking marking ⌝ }
 {
     if is_importing(marking) {
         if asking {
             return Redirect::Serve;
         }
-        return Redirect::Moved { slot, owner };
+        return Redirect::Moved { slot, owner, epoch };
     }
-    Redirect::Moved { slot, owner }
+    Redirect::Moved { slot, owner, epoch }
+}
+
+// The known configEpoch of a node; of a number that has no record, 0.
+fn known_epoch(node: Node, k: u16) -> u64
+    ensures { λ r. ⌜ r ≡ knownEpoch node k ⌝ }
+{
+    let at = k as usize;
+    if at >= tables::NODES {
+        return 0;
+    }
+    let known = node.records[at];
+    known.config
 }
 
 // A key of that slot, past the refusals.
@@ -92,7 +104,7 @@ fn redirected(node: Node, slots: &[u16], slot: u16, present: bool, asking: bool)
     if owner == node.me {
         return at_home(slot, present, marking);
     }
-    elsewhere(slot, owner, asking, marking)
+    elsewhere(slot, owner, known_epoch(node, owner), asking, marking)
 }
 
 // Where a key goes.

@@ -1,12 +1,13 @@
 -- Redirections and listings, and marks set and cleared, on two nodes that are alike.
 use mathlib.Core.Path.{_≡_, refl, sym, ap, _∙_}
-use mathlib.Core.Bool.{Bool, true}
+use mathlib.Core.Bool.{Bool, true, false, cond, not}
 use mathlib.Core.List.{List, _++_}
 use Prim.Native.Nat.{ℕ, _+_, _-_}
 use native.Mathlib.Omega.{arith}
-use lib.Dec.{eqb}
+use lib.Dec.{eqb, ltb}
 use lib.ListN.{length, drop, length-append, length-drop}
 use lib.Seq.{take-append-seam, take-take}
+use borrow.Author.Tests.{ltb-true}
 use Rattle.tables.specs.Sizes.{slotCount}
 use Rattle.tables.specs.Checks.{checked}
 use Rattle.answers.specs.Answers.{number}
@@ -16,15 +17,16 @@ use Rattle.state.specs.Outcomes.{answered}
 use Rattle.state.specs.Same.{held}
 use Rattle.state.specs.declared.Node.{Node}
 use Rattle.state.specs.declared.Mark.{Mark}
+use Rattle.state.specs.declared.Record.{Record}
 use Rattle.state.specs.declared.Move.{Move}
 use Rattle.slots.specs.Key.{keySlot}
-use Rattle.marks.specs.Marks.{marksOf, others, insert, remarked}
+use Rattle.marks.specs.Marks.{marksOf, markingAt, ownerAt, isOwn, others, insert, remarked}
 use Rattle.marks.specs.MarkChanges.{markChecks, setChecks, setMark, unmarkChecks, clearChecks, clearMark}
-use Rattle.routing.specs.Replies.{refused, redirected, routed}
+use Rattle.routing.specs.Replies.{refused, down, atHome, elsewhere, knownEpoch, redirected, routed}
 use Rattle.listing.specs.Listing as listing
 use Rattle.ranges.specs.Ranges.{ranges}
 use Rattle.kinds.specs.Kinds.{keeping}
-use Rattle.sameness.proofs.Seen.{Seen, seen, Alike, bare, stateOf, Reads, from-seen, reads-alike}
+use Rattle.sameness.proofs.Seen.{Seen, seen, Alike, bare, stateOf, Reads, record-read, from-seen, reads-alike}
 use Rattle.sameness.proofs.Told.{Told, answered-told, checked-told, entry-alike}
 
 marks-read : Reads marksOf
@@ -50,6 +52,19 @@ remarked-seen f n =
     long : length (ms ++ rest) ≡ length ms + (length (n .marks) - length ms)
     long = length-append ms rest ∙ ap (λ (k : ℕ). length ms + k) (length-drop (length ms) (n .marks))
 
+-- a redirection reads the marks, and the record of an owner in the roster
+redirected-read : (slots : List ℕ) (s : ℕ) (present asking : Bool) → Reads (λ n. redirected n slots s present asking)
+redirected-read slots s present asking n = by (ltb (ownerAt slots s) (n .size)) refl
+  where
+    owner : ℕ
+    owner = ownerAt slots s
+
+    by : (t : Bool) → ltb owner (n .size) ≡ t
+        → cond (not t) down (cond (isOwn n slots s) (atHome s present (markingAt (bare (held n)) s)) (elsewhere s owner (knownEpoch (bare (held n)) owner) asking (markingAt (bare (held n)) s)))
+        ≡ cond (not t) down (cond (isOwn n slots s) (atHome s present (markingAt n s)) (elsewhere s owner (knownEpoch n owner) asking (markingAt n s)))
+    by true h = rw (marks-read n, ap (λ (r : Record). r .config) (record-read owner n (ltb-true owner (n .size) h)))
+    by false h = refl
+
 module _ (a b : Node) (e : Alike a b) where
   remarked-alike : (f : List Mark → List Mark) → Alike (remarked a (f (marksOf a))) (remarked b (f (marksOf b)))
   remarked-alike f = from-seen a b e (remarkedSeen f) (λ n. seen (remarked n (f (marksOf n)))) (remarked-seen f)
@@ -59,7 +74,7 @@ module _ (a b : Node) (e : Alike a b) where
   routed-alike slots key present asking = λ i. checked (λ x. refused (number x)) (entry-alike a b e (eqb (length slots) slotCount) i) (redirected-alike i)
     where
       redirected-alike : redirected a slots (keySlot key) present asking ≡ redirected b slots (keySlot key) present asking
-      redirected-alike = reads-alike a b e (λ n. redirected n slots (keySlot key) present asking) (λ n. rw (marks-read n))
+      redirected-alike = reads-alike a b e (λ n. redirected n slots (keySlot key) present asking) (redirected-read slots (keySlot key) present asking)
 
   pub ranges-alike : (slots list : List ℕ) → ranges a slots list ≡ ranges b slots list
   unfolding ranges

@@ -129,7 +129,9 @@ pub const DECLINED: u8 = 104;
 
 pub const TOO_MANY: u8 = 105;
 
-pub const NOTHING: u8 = 106;
+pub const STALE_REPLY: u8 = 106;
+
+pub const NOTHING: u8 = 107;
 
 // ---- texts
 
@@ -173,7 +175,7 @@ fn put_text(out: &mut [u8], at: usize, texts: &[u8], note: Note) -> usize {
 }
 
 // All texts: the answers' first, then the others. Each goes up to a ~.
-const TEXTS: [u8; 1961] = *b"done~\
+const TEXTS: [u8; 2031] = *b"done~\
     a table has the wrong length~\
     not a frame~\
     no such node~\
@@ -231,7 +233,7 @@ const TEXTS: [u8; 1961] = *b"done~\
     down~\
     serve~\
     ASK % %~\
-    MOVED % %~\
+    MOVED % % at epoch %~\
     no line yet, characters kept: %~\
     no line yet, it is too long already~\
     \x20 node % is no longer flagged\n~\
@@ -268,7 +270,7 @@ const TEXTS: [u8; 1961] = *b"done~\
     % household %: ~\
     lookup of ~\
     , slot %\n~\
-    \x20 asks node %, cached: ~\
+    \x20 asks node %, cached at epoch %: ~\
     \x20 asks node %, none cached: ~\
     \x20 asks node %: ~\
     \x20 asks node % with ASKING: ~\
@@ -279,6 +281,7 @@ const TEXTS: [u8; 1961] = *b"done~\
     bad, a reply named another slot or no roster node~\
     refused by the node asked, ~\
     too many redirections~\
+    stale, the MOVED is older than the cached entry~\
     ~";
 
 // An answer begins with its number.
@@ -343,7 +346,12 @@ pub fn of_redirect(redirect: Redirect) -> Note {
         Redirect::Down => text(DOWN, 0, 0),
         Redirect::Serve => text(SERVE, 0, 0),
         Redirect::Ask { slot, peer } => text(ASK, slot as u64, peer as u64),
-        Redirect::Moved { slot, owner } => text(MOVED, slot as u64, owner as u64),
+        Redirect::Moved { slot, owner, epoch } => Note {
+            row: MOVED,
+            first: slot as u64,
+            second: owner as u64,
+            third: epoch,
+        },
     }
 }
 

@@ -10,6 +10,7 @@ use Rattle.routing.specs.Replies.{Reply}
 use Rattle.lookups.specs.Keys.{keyRoom, keyBytes}
 use Rattle.lookups.specs.declared.Key.{Key}
 use Rattle.lookups.specs.declared.Lookup.{Lookup}
+use Rattle.cache.specs.Cache.{Map}
 use Rattle.gateway.specs.Gateway.{started, Taken, taken}
 use Rattle.walking.specs.Walking.{replyOf, keyOf, begun, takes, walked, digested}
 
@@ -34,11 +35,11 @@ to-the-end size (code ∷ codes) m = to-the-end size codes (one-more size code m
 front : (text : List ℕ) → keyBytes (keyOf text) ≡ take keyRoom text
 front text = take-all (length text) (take keyRoom text) (rw (length-take keyRoom text) (min-le-right keyRoom (length text)))
 
-abbrev pub here : Lookup → List ℕ → Taken
+abbrev pub here : Lookup → Map → Taken
 here lookup map = record { lookup = lookup; map = map }
 
 -- any key with these bytes and that length gives the same digest
-pub at-first : (map : List ℕ) (size household : ℕ) (text codes : List ℕ) (k : Key) → (keyBytes k ≡ take keyRoom text) × (k .length ≡ length text) → (l : Lookup) → l ≡ started map size household k → digested (walked size (begun map size household (keyOf text)) codes) ≡ digested (walked size (here l map) codes)
+pub at-first : (map : Map) (size household : ℕ) (text codes : List ℕ) (k : Key) → (keyBytes k ≡ take keyRoom text) × (k .length ≡ length text) → (l : Lookup) → l ≡ started map size household k → digested (walked size (begun map size household (keyOf text)) codes) ≡ digested (walked size (here l map) codes)
 unfolding started
 at-first map size household text codes k (e, h) l q =
     to-the-end size codes (rw q (record { household = refl; bytes = front text ∙ sym e; length = sym h; stage = rw (front text, e, h); map = refl }))

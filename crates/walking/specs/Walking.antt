@@ -1,4 +1,4 @@
--- One lookup from its start through a list of replies, for callers that time it: in one number, and the map.
+-- One lookup from its start through a list of replies, for callers that time it: in one number, and the map with its epochs.
 use Prim.Native.Nat.{ℕ, _+_, _-_, _*_, _/_, _%_}
 use mathlib.Core.Bool.{cond}
 use mathlib.Core.List.{List, [], _∷_, foldl}
@@ -10,13 +10,14 @@ use Rattle.routing.specs.Replies.{Reply, refused, down, serve, ask, moved}
 use Rattle.lookups.specs.Keys.{keyRoom, frontOf, keyBytes}
 use Rattle.lookups.specs.declared.Key.{Key}
 use Rattle.lookups.specs.declared.End.{End}
-use Rattle.lookups.specs.declared.End.the-variants.{Served, Bad, Down, Declined, TooMany, Refused}
+use Rattle.lookups.specs.declared.End.the-variants.{Served, Bad, Down, Declined, TooMany, Stale, Refused}
 use Rattle.lookups.specs.declared.Stage.{Stage}
 use Rattle.lookups.specs.declared.Stage.the-variants.{Asking, Ended}
 use Rattle.lookups.specs.declared.Lookup.{Lookup}
+use Rattle.cache.specs.Cache.{Map}
 use Rattle.gateway.specs.Gateway.{started, Taken, taken}
 
--- ---- a reply as one number: its kind, slot and node, 16 bits each from the lowest on
+-- ---- a reply as one number: its kind, slot, node and epoch, 16 bits each from the lowest on
 
 abbrev pub kindOf : ℕ → ℕ
 kindOf code = code % 65536
@@ -26,6 +27,10 @@ slotIn code = code / 65536 % 65536
 
 abbrev pub nodeIn : ℕ → ℕ
 nodeIn code = code / 4294967296 % 65536
+
+-- of a MOVED alone; the epochs beside the map may be greater
+abbrev pub epochIn : ℕ → ℕ
+epochIn code = code / 281474976710656 % 65536
 
 -- 0 is serve, 1 and 7 the refusals with these numbers, 2 down, 3 ASK and any other MOVED
 abbrev pub replyOf : ℕ → Reply
@@ -37,7 +42,7 @@ replyOf code =
     ∷ (eqb (kindOf code) 2, down)
     ∷ (eqb (kindOf code) 3, ask (slotIn code) (nodeIn code))
     ∷ [])
-    (moved (slotIn code) (nodeIn code))
+    (moved (slotIn code) (nodeIn code) (epochIn code))
 
 -- ---- the lookup
 
@@ -46,7 +51,7 @@ abbrev pub keyOf : List ℕ → Key
 keyOf text = record { bytes = frontOf keyRoom text; length = length text }
 
 -- before the first reply
-abbrev pub begun : List ℕ → (size household : ℕ) → Key → Taken
+abbrev pub begun : Map → (size household : ℕ) → Key → Taken
 begun map size household key = record { lookup = started map size household key; map = map }
 
 -- one reply
@@ -71,6 +76,7 @@ endDigest Down = word 4 0 0
 endDigest (Declined number) = word 5 0 number
 endDigest TooMany = word 6 0 0
 endDigest (Refused number) = word 7 0 number
+endDigest Stale = word 8 0 0
 
 abbrev pub stageDigest : Stage → ℕ
 stageDigest (Asking q) = word (cond (q .asking) 1 0) (q .hops) (q .node)
@@ -92,7 +98,7 @@ lookupDigest l = bitXor (l .household) (stageDigest (l .stage) + keyDigest (l .k
 
 pub record Digested : Type 0 where
   pub digest : ℕ
-  pub map : List ℕ
+  pub map : Map
 
 abbrev pub digested : Taken → Digested
 digested t = record { digest = lookupDigest (t .lookup); map = t .map }

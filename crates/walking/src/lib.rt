@@ -3,6 +3,7 @@
 ghost use mathlib.Core.Path.{_≡_};
 ghost use Prim.Native.Nat.{_<_};
 ghost use Rattle.routing.specs.Replies.{reply};
+ghost use Rattle.cache.specs.Cache.{mapOf};
 ghost use Rattle.walking.specs.Walking.{replyOf, keyOf, begun, walked, word, endDigest, stageDigest, firstOf, lastOf, keyDigest, lookupDigest, digested, Digested};
 use lookups::End;
 use lookups::Key;
@@ -10,7 +11,7 @@ use lookups::Lookup;
 use lookups::Stage;
 use routing::Redirect;
 
-// ---- a reply as one number
+// ---- a reply as one number: its kind, slot, node and a MOVED's epoch
 
 fn redirect_of(code: u64) -> Redirect
     ensures { λ r. ⌜ reply r ≡ replyOf code ⌝ }
@@ -33,7 +34,11 @@ fn redirect_of(code: u64) -> Redirect
     if kind == 3 {
         return Redirect::Ask { slot, peer: node };
     }
-    Redirect::Moved { slot, owner: node }
+    Redirect::Moved {
+        slot,
+        owner: node,
+        epoch: code / 281474976710656 % 65536,
+    }
 }
 
 // ---- a lookup in one number
@@ -61,6 +66,7 @@ fn of_end(end: End) -> u32
         End::Declined(number) => word(5, 0, number as u16),
         End::TooMany => word(6, 0, 0),
         End::Refused(number) => word(7, 0, number as u16),
+        End::Stale => word(8, 0, 0),
     }
 }
 
@@ -113,21 +119,23 @@ fn of_lookup(lookup: Lookup) -> u64
     household ^ (of_stage(stage) as u64 + of_key(key) as u64 * 4294967296)
 }
 
-// A household's lookup of a key, which takes the replies one after the other.
+// A household's lookup of a key, which takes the replies one after the other. What they teach goes into the map and the epochs
+// beside its entries.
 #[no_mangle]
 pub extern "C" fn ukweribaso_lookup(
     map: &mut [u16],
+    epochs: &mut [u64],
     size: u16,
     household: u64,
     key: &[u8],
     replies: &[u64],
 ) -> u64
-    ensures { λ r. ⌜ record { digest = r; map = now (map .exit) } ≡ digested (walked size (begun (now (map .entry)) size household (keyOf (now (key .entry)))) (now (replies .entry))) ⌝ }
+    ensures { λ r. ⌜ record { digest = r; map = mapOf (now (map .exit)) (now (epochs .exit)) } ≡ digested (walked size (begun (mapOf (now (map .entry)) (now (epochs .entry))) size household (keyOf (now (key .entry)))) (now (replies .entry))) ⌝ }
 {
-    let mut lookup = gateway::start(map, size, household, lookups::key_of(key));
+    let mut lookup = gateway::start(map, epochs, size, household, lookups::key_of(key));
     let mut i: usize = 0;
     while i < replies.len() {
-        lookup = gateway::take(lookup, map, size, redirect_of(replies[i]));
+        lookup = gateway::take(lookup, map, epochs, size, redirect_of(replies[i]));
         i += 1;
     }
     of_lookup(lookup)

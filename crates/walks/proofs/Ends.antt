@@ -4,7 +4,6 @@ use mathlib.Core.Path.{_≡_, refl, sym, subst}
 use mathlib.Core.Bool.{true}
 use mathlib.Core.List.{List}
 use native.Mathlib.Omega.{arith}
-use lib.ListN.{length}
 use Rattle.routing.specs.Replies.{Reply}
 use Rattle.seats.specs.declared.Seat.{Seat}
 use Rattle.calls.specs.declared.Call.{Call}
@@ -18,6 +17,7 @@ use Rattle.lookups.specs.declared.Stage.{Stage}
 use Rattle.lookups.specs.declared.Stage.the-variants.{Asking, Ended}
 use Rattle.lookups.specs.declared.Lookup.{Lookup}
 use Rattle.lookups.specs.declared.Turn.{Turn}
+use Rattle.cache.specs.Cache.{Map, entryAt, heldEpoch, wrongLength}
 use Rattle.gateway.specs.Gateway.{Taken, startChecks, started, turn, taken, asked}
 use Rattle.gateway.proofs.Turns.{Comes, through, turn-comes}
 use Rattle.walks.specs.Walks.{questioned, walked, hasEnded, WalkEnds}
@@ -25,27 +25,28 @@ use Rattle.walks.proofs.Walks.{ended}
 
 module _ (seats : List Seat) (slots : List ℕ) (call : Call) (size : ℕ) where
   -- after so many questions
-  abbrev Done : ℕ → Lookup → List ℕ → Type 0
+  abbrev Done : ℕ → Lookup → Map → Type 0
   Done n l map = hasEnded (walked seats slots call size n l map .lookup .stage) ≡ true
 
   -- every lookup that asks, few redirections so far and many questions to go
   abbrev AllDone : ℕ → Type 0
-  AllDone n = (l : Lookup) (map : List ℕ) (q : Question) → l .stage ≡ Asking q → q .hops ≤ 4 → 5 ≤ q .hops + n → Done n l map
+  AllDone n = (l : Lookup) (map : Map) (q : Question) → l .stage ≡ Asking q → q .hops ≤ 4 → 5 ≤ q .hops + n → Done n l map
 
-  done : (n : ℕ) (l : Lookup) (map : List ℕ) (end : End) → l .stage ≡ Ended end → Done n l map
+  done : (n : ℕ) (l : Lookup) (map : Map) (end : End) → l .stage ≡ Ended end → Done n l map
   done n l map end e = subst (λ (t : Taken). hasEnded (t .lookup .stage) ≡ true) (sym (ended seats slots call size n l map end e)) (subst (λ (s : Stage). hasEnded s ≡ true) (sym e) refl)
 
   -- what is left after a reply
-  left : (n s : ℕ) (l : Lookup) (map : List ℕ) (q : Question) (r : Reply) (t : Turn) → AllDone n → 4 ≤ q .hops + n → Comes size s q r t → Done n (at l (t .stage)) map
-  left n s l map q r t all h (Comes.ended end why) = done n (at l (Ended end)) map end refl
-  left n s l map q r t all h (Comes.sent peer lt) = all _ map _ refl (omega arith) (omega arith)
-  left n s l map q r t all h (Comes.moves owner m i lt) = all _ map _ refl (omega arith) (omega arith)
+  left : (n s held : ℕ) (l : Lookup) (map : Map) (q : Question) (r : Reply) (t : Turn) → AllDone n → 4 ≤ q .hops + n → Comes size s held q r t → Done n (at l (t .stage)) map
+  left n s held l map q r t all h (Comes.ended end why) = done n (at l (Ended end)) map end refl
+  left n s held l map q r t all h (Comes.sent peer lt) = all _ map _ refl (omega arith) (omega arith)
+  left n s held l map q r t all h (Comes.moves owner epoch m i lt new) = all _ map _ refl (omega arith) (omega arith)
 
-  replied : (n : ℕ) (l : Lookup) (map : List ℕ) (q : Question) (r : Reply) → AllDone n → l .stage ≡ Asking q → 4 ≤ q .hops + n → Done n (taken l map size r .lookup) (taken l map size r .map)
+  replied : (n : ℕ) (l : Lookup) (map : Map) (q : Question) (r : Reply) → AllDone n → l .stage ≡ Asking q → 4 ≤ q .hops + n → Done n (taken l map size r .lookup) (taken l map size r .map)
   unfolding taken
   replied n l map q r all e h =
-      subst (λ (s : Stage). Done n (at l (turn (length map) size (slotOf (l .key)) s r .stage)) (taken l map size r .map)) (sym e)
-      (left n (slotOf (l .key)) l (taken l map size r .map) q r _ all h (turn-comes size (slotOf (l .key)) q (length map) r))
+      let k = slotOf (l .key) in let held = heldEpoch size (entryAt map k) in
+      subst (λ (s : Stage). Done n (at l (turn (wrongLength map) size k held s r .stage)) (taken l map size r .map)) (sym e)
+      (left n k held l (taken l map size r .map) q r _ all h (turn-comes size k held q (wrongLength map) r))
 
   all-done : (n : ℕ) → AllDone n
   unfolding walked asked
@@ -57,7 +58,7 @@ module _ (seats : List Seat) (slots : List ℕ) (call : Call) (size : ℕ) where
 pub walk-ends : WalkEnds
 unfolding started
 walk-ends seats slots call map size household key =
-    through (λ (s : Stage). Done seats slots call size 5 (from s) map) (λ (n : ℕ). Ended (Refused n)) (startChecks (length map) size key) _
+    through (λ (s : Stage). Done seats slots call size 5 (from s) map) (λ (n : ℕ). Ended (Refused n)) (startChecks (wrongLength map) size key) _
     ((λ e. refused 1), ((λ e. refused 3), ((λ e. refused 49), tt))) (λ f. all-done seats slots call size 5 _ map _ refl (omega arith) (omega arith))
   where
     from : Stage → Lookup

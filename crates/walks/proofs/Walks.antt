@@ -15,6 +15,7 @@ use Rattle.lookups.specs.declared.End.{End}
 use Rattle.lookups.specs.declared.Stage.{Stage}
 use Rattle.lookups.specs.declared.Stage.the-variants.{Asking, Ended}
 use Rattle.lookups.specs.declared.Lookup.{Lookup}
+use Rattle.cache.specs.Cache.{Map}
 use Rattle.gateway.specs.Gateway.{Taken, asked}
 use Rattle.walks.specs.Walks.{nodeOf, tableOf, among, wordsFrom, holds, questioned, walked}
 
@@ -51,22 +52,22 @@ rest l s n h = let z : length (drop s l) ≡ length l - s = length-drop s l in r
 
 -- a walk over the nodes of a run
 module _ (seats : List Seat) (slots : List ℕ) (call : Call) (size : ℕ) where
-  abbrev Step : ℕ → Lookup → List ℕ → Taken → Stage → Type 0
+  abbrev Step : ℕ → Lookup → Map → Taken → Stage → Type 0
   Step n l map t s = walked seats slots call size n (questioned seats slots call size s l map .lookup) (questioned seats slots call size s l map .map) ≡ t
 
   -- none is left
-  pub no-question : (n : ℕ) (l : Lookup) (map : List ℕ) → n ≤ 0 → walked seats slots call size n l map ≡ record { lookup = l; map = map }
+  pub no-question : (n : ℕ) (l : Lookup) (map : Map) → n ≤ 0 → walked seats slots call size n l map ≡ record { lookup = l; map = map }
   unfolding walked
   no-question n l map h = let z : n ≡ 0 = omega arith in rw z
 
   -- a lookup that has ended stays as it ended
-  pub ended : (n : ℕ) (l : Lookup) (map : List ℕ) (end : End) → l .stage ≡ Ended end → walked seats slots call size n l map ≡ record { lookup = l; map = map }
+  pub ended : (n : ℕ) (l : Lookup) (map : Map) (end : End) → l .stage ≡ Ended end → walked seats slots call size n l map ≡ record { lookup = l; map = map }
   unfolding walked
   ended zero l map end e = refl
   ended (suc n) l map end e = subst (Step n l map (record { lookup = l; map = map })) (sym e) (ended n l map end e)
 
   -- what a question leaves to be walked
-  pub one-question : (n : ℕ) (l : Lookup) (map : List ℕ) (q : Question) (t : Taken) → 0 < n → l .stage ≡ Asking q → t ≡ asked l map size (nodeOf seats (q .node)) (tableOf slots (q .node)) (holds call (q .node)) → walked seats slots call size n l map ≡ walked seats slots call size (n - 1) (t .lookup) (t .map)
+  pub one-question : (n : ℕ) (l : Lookup) (map : Map) (q : Question) (t : Taken) → 0 < n → l .stage ≡ Asking q → t ≡ asked l map size (nodeOf seats (q .node)) (tableOf slots (q .node)) (holds call (q .node)) → walked seats slots call size n l map ≡ walked seats slots call size (n - 1) (t .lookup) (t .map)
   unfolding walked
   one-question n l map q t some e h =
       let one : n ≡ suc (n - 1) = omega arith in

@@ -16,6 +16,7 @@ use Rattle.lookups.specs.declared.Key.{Key}
 use Rattle.lookups.specs.declared.Stage.{Stage}
 use Rattle.lookups.specs.declared.Stage.the-variants.{Asking, Ended}
 use Rattle.lookups.specs.declared.Lookup.{Lookup}
+use Rattle.cache.specs.Cache.{Map}
 use Rattle.gateway.specs.Gateway.{Taken, started, asked}
 
 -- the most nodes of a run
@@ -51,12 +52,12 @@ holds call k = among k (wordsFrom 4 (call .words) (call .numbers))
 
 module _ (seats : List Seat) (slots : List ℕ) (call : Call) (size : ℕ) where
   -- one question; a lookup that has ended asks none
-  abbrev pub questioned : Stage → Lookup → List ℕ → Taken
+  abbrev pub questioned : Stage → Lookup → Map → Taken
   questioned (Asking q) l map = asked l map size (nodeOf seats (q .node)) (tableOf slots (q .node)) (holds call (q .node))
   questioned (Ended end) l map = record { lookup = l; map = map }
 
   -- so many questions, one after the other
-  unfoldable pub walked : ℕ → Lookup → List ℕ → Taken
+  unfoldable pub walked : ℕ → Lookup → Map → Taken
   walked zero l map = record { lookup = l; map = map }
   walked (suc n) l map = walked n (questioned (l .stage) l map .lookup) (questioned (l .stage) l map .map)
 
@@ -65,7 +66,7 @@ abbrev pub mostQuestions : ℕ
 mostQuestions = mostHops + 1
 
 -- what a line leaves of the map: what the questions of one lookup make of it, of the household that the line names at place 1
-pub record LookedUp (seats : List Seat) (slots : List ℕ) (call : Call) (size : ℕ) (before after : List ℕ) : Type 0 where
+pub record LookedUp (seats : List Seat) (slots : List ℕ) (call : Call) (size : ℕ) (before after : Map) : Type 0 where
   pub key : Key
   pub map : after ≡ walked seats slots call size mostQuestions (started before size (getD (call .numbers) 1 0) key) before .map
 
@@ -77,5 +78,5 @@ hasEnded (Ended end) = true
 
 -- a lookup that has started has ended then, whatever the nodes are and reply
 abbrev pub WalkEnds : Type 0
-WalkEnds = (seats : List Seat) (slots : List ℕ) (call : Call) (map : List ℕ) (size household : ℕ) (key : Key)
+WalkEnds = (seats : List Seat) (slots : List ℕ) (call : Call) (map : Map) (size household : ℕ) (key : Key)
     → hasEnded (walked seats slots call size mostQuestions (started map size household key) map .lookup .stage) ≡ true

@@ -1,8 +1,10 @@
-// A lookup of the gateway (document 02, [4]), walked over the nodes of a run and told: docs/REPLAY.md.
+// A lookup of the gateway (document 02, [4] and [5]), walked over the nodes of a run and told: docs/REPLAY.md.
 ghost use mathlib.Core.Path.{_≡_};
 ghost use Prim.Native.Nat.{_%_};
+ghost use Rattle.cache.specs.Cache.{mapOf};
 ghost use Rattle.gateway.specs.Gateway.{asked};
 ghost use Rattle.walks.specs.Walks.{mostQuestions, tableOf, among, wordsFrom, walked, LookedUp};
+use accounts::Cached;
 use calls::Call;
 use lookups::Key;
 use lookups::Lookup;
@@ -20,13 +22,13 @@ const SLOTS: usize = tables::SLOTS as usize;
 // The place of the first word behind `held`.
 const HELD: usize = 4;
 
-// The map has an entry for the key's slot.
-fn is_cached(map: &[u16], size: u16, key: Key) -> bool {
-    let slot = lookups::slot(key) as usize;
-    if slot < map.len() {
-        return map[slot] < size;
+// The entry that the map has for the key's slot.
+fn cached_entry(map: &[u16], epochs: &[u64], size: u16, key: Key) -> Cached {
+    let slot = lookups::slot(key);
+    if cache::owner_at(map, slot) >= size {
+        return Cached::Nothing;
     }
-    false
+    Cached::At(cache::held_epoch(map, epochs, size, slot))
 }
 
 // A node is named behind `held`, by the numbers of so many words.
@@ -71,6 +73,7 @@ fn ask(
     lookup: Lookup,
     question: Question,
     map: &mut [u16],
+    epochs: &mut [u64],
     size: u16,
     node: Node,
     table: &[u16],
@@ -78,15 +81,15 @@ fn ask(
     out: &mut [u8],
     at: usize,
 ) -> Walked
-    ensures { λ r. ⌜ record { lookup = r .lookup; map = now (map .exit) } ≡ asked lookup (now (map .entry)) size node (now (table .entry)) present ⌝ }
+    ensures { λ r. ⌜ record { lookup = r .lookup; map = mapOf (now (map .exit)) (now (epochs .exit)) } ≡ asked lookup (mapOf (now (map .entry)) (now (epochs .entry))) size node (now (table .entry)) present ⌝ }
 {
     let key = lookup.key;
     let bytes = key.bytes;
     let name = lookups::part(&bytes, key.length);
-    let cached = is_cached(map, size, key);
+    let cached = cached_entry(map, epochs, size, key);
     let redirect = routing::route(node, table, name, present, question.asking);
     Walked {
-        lookup: gateway::ask(lookup, map, size, node, table, present),
+        lookup: gateway::ask(lookup, map, epochs, size, node, table, present),
         at: accounts::put_question(out, at, question, cached, redirect),
     }
 }
@@ -95,6 +98,7 @@ fn ask(
 fn walk(
     start: Lookup,
     map: &mut [u16],
+    epochs: &mut [u64],
     size: u16,
     seats: [Seat; ROOM],
     slots: &[u16],
@@ -102,7 +106,7 @@ fn walk(
     out: &mut [u8],
     at: usize,
 ) -> Walked
-    ensures { λ r. ⌜ record { lookup = r .lookup; map = now (map .exit) } ≡ walked seats (now (slots .entry)) call size mostQuestions start (now (map .entry)) ⌝ }
+    ensures { λ r. ⌜ record { lookup = r .lookup; map = mapOf (now (map .exit)) (now (epochs .exit)) } ≡ walked seats (now (slots .entry)) call size mostQuestions start (mapOf (now (map .entry)) (now (epochs .entry))) ⌝ }
 {
     let numbers = call.numbers;
     let mut lookup = start;
@@ -114,12 +118,12 @@ fn walk(
             Stage::Ended(_) => {
                 return Walked { lookup, at: end };
             }
-            Stage::Asking(question) => {
-                let present = is_named(&numbers, call.words, question.node);
-                let table = table(slots, question.node);
-                let here = seats[question.node as usize % ROOM];
+            Stage::Asking(q) => {
+                let present = is_named(&numbers, call.words, q.node);
+                let table = table(slots, q.node);
+                let here = seats[q.node as usize % ROOM];
                 let node = here.node;
-                let next = ask(lookup, question, map, size, node, table, present, out, end);
+                let next = ask(lookup, q, map, epochs, size, node, table, present, out, end);
                 lookup = next.lookup;
                 end = next.at;
                 left -= 1;
@@ -132,6 +136,7 @@ fn walk(
 // A line that says a lookup, done and told. The nodes stay as they are.
 pub fn look_up(
     map: &mut [u16],
+    epochs: &mut [u64],
     size: u64,
     seats: [Seat; ROOM],
     slots: &[u16],
@@ -140,14 +145,14 @@ pub fn look_up(
     out: &mut [u8],
     at: usize,
 ) -> usize
-    ensures { λ _. ⌜ LookedUp seats (now (slots .entry)) call (size % 65536) (now (map .entry)) (now (map .exit)) ⌝ }
+    ensures { λ _. ⌜ LookedUp seats (now (slots .entry)) call (size % 65536) (mapOf (now (map .entry)) (now (epochs .entry))) (mapOf (now (map .exit)) (now (epochs .exit))) ⌝ }
 {
     let kept = source.kept;
     let bytes = kept.bytes;
     let roster = seats::short(size);
     let key = lookups::key_of(calls::word(sources::characters(&bytes, kept.length), 2));
-    let lookup = gateway::start(map, roster, call.numbers[1], key);
+    let lookup = gateway::start(map, epochs, roster, call.numbers[1], key);
     let begin = accounts::put_start(out, at, source.count, lookup);
-    let walked = walk(lookup, map, roster, seats, slots, call, out, begin);
+    let walked = walk(lookup, map, epochs, roster, seats, slots, call, out, begin);
     accounts::put_account(out, walked.at, walked.lookup)
 }

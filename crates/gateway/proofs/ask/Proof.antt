@@ -23,9 +23,12 @@ take-requires c κs = search needs
 same-length : tie.Need-same-length
 same-length c = search needs
 
+same-length-2 : tie.Need-same-length-2
+same-length-2 c = search needs
+
 returns : tie.Need-returns
 unfolding asked
-returns c = let t = c .before .before in let r = t .before .before in let p = r .before in let w = p .before .before in
+returns c = let t = c .before .before .before .before in let r = t .before .before .before in let p = r .before in let w = p .before .before in
     t .take .ensures ∙ rw (r .route .ensures, p .part .ensures, w .with-asking .ensures)
 
 pub ask-spec : {M : Type 1} → statement M
@@ -38,4 +41,5 @@ ask-spec =
     route-requires
     take-requires
     same-length
+    same-length-2
     returns)

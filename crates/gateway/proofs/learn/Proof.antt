@@ -1,5 +1,4 @@
 -- `gateway::learn` meets its contract.
-use lib.Seq.{set-out}
 use borrow.Author.Needs.{needs}
 use Rattle.gateway.proofs.learn.Statement.{statement}
 use Rattle.gateway.proofs.learn.Tie as tie
@@ -10,23 +9,20 @@ enum-told c = search needs
 enum-known-learned : tie.Need-enum-known-learned
 enum-known-learned c = search needs
 
-mul-map : tie.Need-mul-map
-mul-map c = search needs
-
-slice-write-map : tie.Need-slice-write-map
-slice-write-map c = search needs
+enter-requires : tie.Need-enter-requires
+enter-requires c κs = search needs
 
 returns : tie.Need-returns
-returns c = search needs
+returns c = rw (c .enum-told .given .1)
 
 same-length : tie.Need-same-length
 same-length c = search needs
 
-returns-2 : tie.Need-returns-2
-returns-2 c = rw (c .before .before .learned .given .1)
+same-length-2 : tie.Need-same-length-2
+same-length-2 c = search needs
 
-returns-3 : tie.Need-returns-3
-returns-3 c = rw (c .before .before .learned .given .1, set-out _ _ _ (c .if1 .left))
+returns-2 : tie.Need-returns-2
+returns-2 c = let e = c .before .before .before .before in rw (e .before .before .before .before .learned .given .1) (e .enter .ensures)
 
 pub learn-spec : {M : Type 1} → statement M
 learn-spec =
@@ -34,9 +30,8 @@ learn-spec =
     (tie.spec
     enum-told
     enum-known-learned
-    mul-map
-    slice-write-map
+    enter-requires
     returns
     same-length
-    returns-2
-    returns-3)
+    same-length-2
+    returns-2)

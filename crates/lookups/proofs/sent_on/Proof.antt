@@ -25,11 +25,19 @@ ends-requires-3 c κs = search needs
 returns-3 : tie.Need-returns-3
 returns-3 c = rw (c .ends3 .ensures, ← c .before .before .before .before .slot .ensures, eq-eqb _ _ (c .before .before .before .if1 .left), lt-leb _ _ (c .before .before .if2 .left), le-leb _ _ (c .before .if3 .taken))
 
-add-t13 : tie.Need-add-t13
-add-t13 c = search needs
+ends-requires-4 : tie.Need-ends-requires-4
+ends-requires-4 c κs = search needs
 
 returns-4 : tie.Need-returns-4
-returns-4 c = rw (← c .before .before .before .slot .ensures, eq-eqb _ _ (c .before .before .if1 .left), lt-leb _ _ (c .before .if2 .left), lt-leb _ _ (c .if3 .left))
+returns-4 c = let t = c .before in let h = t .before in
+    rw (c .ends4 .ensures, ← h .before .before .before .slot .ensures, eq-eqb _ _ (h .before .before .if1 .left), lt-leb _ _ (h .before .if2 .left), lt-leb _ _ (h .if3 .left), t .if4 .taken)
+
+add-t15 : tie.Need-add-t15
+add-t15 c = search needs
+
+returns-5 : tie.Need-returns-5
+returns-5 c = let h = c .before in
+    rw (← h .before .before .before .slot .ensures, eq-eqb _ _ (h .before .before .if1 .left), lt-leb _ _ (h .before .if2 .left), lt-leb _ _ (h .if3 .left), c .if4 .left)
 
 pub sent-on-spec : {M : Type 1} → statement M
 sent-on-spec =
@@ -42,5 +50,7 @@ sent-on-spec =
     returns-2
     ends-requires-3
     returns-3
-    add-t13
-    returns-4)
+    ends-requires-4
+    returns-4
+    add-t15
+    returns-5)

@@ -23,12 +23,15 @@ returns-2 : tie.Need-returns-2
 returns-2 c = let f = c .before .before .before in let e = f .before in
     rw (lt-ltb _ _ (e .if1 .left), eq-eqb _ _ (c .before .if2 .taken), ← f .find .ensures) (c .at-home .ensures)
 
+known-epoch-requires : tie.Need-known-epoch-requires
+known-epoch-requires c κs = search needs
+
 elsewhere-requires : tie.Need-elsewhere-requires
 elsewhere-requires c κs = search needs
 
 returns-3 : tie.Need-returns-3
-returns-3 c = let f = c .before .before .before in let e = f .before in
-    rw (lt-ltb _ _ (e .if1 .left), ne-eqb _ _ (c .before .if2 .left), ← f .find .ensures) (c .elsewhere .ensures)
+returns-3 c = let k = c .before in let f = k .before .before .before in let e = f .before in
+    rw (lt-ltb _ _ (e .if1 .left), ne-eqb _ _ (k .before .if2 .left), ← f .find .ensures, ← k .known-epoch .ensures) (c .elsewhere .ensures)
 
 pub redirected-spec : {M : Type 1} → statement M
 redirected-spec =
@@ -40,5 +43,6 @@ redirected-spec =
     find-requires
     at-home-requires
     returns-2
+    known-epoch-requires
     elsewhere-requires
     returns-3)

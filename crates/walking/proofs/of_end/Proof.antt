@@ -45,6 +45,12 @@ cast-word-2 c = search needs
 word-requires-6 : tie.Need-word-requires-6
 word-requires-6 c κs = search needs
 
+enum-told-4 : tie.Need-enum-told-4
+enum-told-4 c = search needs
+
+word-requires-7 : tie.Need-word-requires-7
+word-requires-7 c κs = search needs
+
 returns : tie.Need-returns
 returns c = rw (c .word .ensures, c .before .before .end .given .1)
 
@@ -62,6 +68,9 @@ returns-5 c = search needs
 
 returns-6 : tie.Need-returns-6
 returns-6 c = rw (c .word6 .ensures, c .before .before .end3 .given .1)
+
+returns-7 : tie.Need-returns-7
+returns-7 c = search needs
 
 pub of-end-spec : {M : Type 1} → statement M
 of-end-spec =
@@ -81,9 +90,12 @@ of-end-spec =
     enum-known-end-3
     cast-word-2
     word-requires-6
+    enum-told-4
+    word-requires-7
     returns
     returns-2
     returns-3
     returns-4
     returns-5
-    returns-6)
+    returns-6
+    returns-7)
