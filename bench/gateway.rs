@@ -7,6 +7,8 @@ extern "C" {
     fn ukweribaso_lookup(
         map: *mut u16,
         map_length: usize,
+        epochs: *mut u64,
+        epochs_length: usize,
         size: u16,
         household: u64,
         key: *const u8,
@@ -14,6 +16,13 @@ extern "C" {
         replies: *const u64,
         replies_length: usize,
     ) -> u64;
+}
+
+/// The slots' owners, and the epoch beside each of them: two lists, as the proved function takes them.
+#[derive(Clone, PartialEq)]
+struct Map {
+    owners: Vec<u16>,
+    epochs: Vec<u64>,
 }
 
 /// What a lookup is started with and takes; a reply is one number.
@@ -25,12 +34,14 @@ struct Walk {
     replies: Vec<u64>,
 }
 
-fn proved(map: &mut [u16], walk: &Walk) -> u64 {
+fn proved(map: &mut Map, walk: &Walk) -> u64 {
     let Walk { size, household, key, replies } = walk;
     unsafe {
         ukweribaso_lookup(
-            map.as_mut_ptr(),
-            map.len(),
+            map.owners.as_mut_ptr(),
+            map.owners.len(),
+            map.epochs.as_mut_ptr(),
+            map.epochs.len(),
             *size,
             *household,
             key.as_ptr(),
@@ -51,7 +62,7 @@ enum Reply {
     Down,
     Serve,
     Ask { slot: u16, peer: u16 },
-    Moved { slot: u16, owner: u16 },
+    Moved { slot: u16, owner: u16, epoch: u64 },
 }
 
 #[derive(Clone, Copy)]
@@ -62,6 +73,7 @@ enum Stage {
     Down,
     Declined(u8),
     TooMany,
+    Stale,
     Refused(u8),
 }
 
@@ -72,46 +84,59 @@ struct Lookup {
     stage: Stage,
 }
 
-fn refusal(map: &[u16], size: u16) -> Option<u8> {
-    if map.len() != SLOTS {
-        return Some(1);
+impl Map {
+    fn refusal(&self, size: u16) -> Option<u8> {
+        if self.owners.len() != SLOTS || self.epochs.len() != SLOTS {
+            return Some(1);
+        }
+        if !(1..=64).contains(&size) {
+            return Some(3);
+        }
+        None
     }
-    if !(1..=64).contains(&size) {
-        return Some(3);
+
+    /// The epoch that a MOVED must not fall below; an entry whose owner is not in the roster is none.
+    fn held(&self, size: u16, slot: u16) -> u64 {
+        if self.owners[slot as usize] < size {
+            self.epochs[slot as usize]
+        } else {
+            0
+        }
     }
-    None
 }
 
 impl Lookup {
-    fn start(map: &[u16], size: u16, household: u64, key: &[u8]) -> Lookup {
-        let (slot, stage) = match refusal(map, size).or((key.len() > ROOM).then_some(49)) {
+    fn start(map: &Map, size: u16, household: u64, key: &[u8]) -> Lookup {
+        let (slot, stage) = match map.refusal(size).or((key.len() > ROOM).then_some(49)) {
             Some(number) => (0, Stage::Refused(number)),
             None => {
                 let slot = key_slot(key);
-                let entry = map[slot as usize];
-                let node = if entry < size { entry } else { 0 };
+                let owner = map.owners[slot as usize];
+                let node = if owner < size { owner } else { 0 };
                 (slot, Stage::Asking { node, asking: false, hops: 0 })
             }
         };
         Lookup { household, key: key.to_vec(), slot, stage }
     }
 
-    /// A redirection: the next stage, and whether it is followed.
-    fn redirected(&self, size: u16, hops: u8, slot: u16, node: u16, asking: bool) -> (Stage, bool) {
+    /// A redirection, with a MOVED's epoch: the next stage, and whether it is followed.
+    fn redirected(&self, map: &Map, size: u16, hops: u8, slot: u16, node: u16, epoch: Option<u64>) -> (Stage, bool) {
         if slot != self.slot || node >= size {
             (Stage::Bad, false)
         } else if hops >= 4 {
             (Stage::TooMany, false)
+        } else if epoch.is_some_and(|epoch| epoch < map.held(size, slot)) {
+            (Stage::Stale, false)
         } else {
-            (Stage::Asking { node, asking, hops: hops + 1 }, true)
+            (Stage::Asking { node, asking: epoch.is_none(), hops: hops + 1 }, true)
         }
     }
 
-    fn take(&mut self, map: &mut [u16], size: u16, reply: Reply) {
+    fn take(&mut self, map: &mut Map, size: u16, reply: Reply) {
         let Stage::Asking { node, hops, .. } = self.stage else {
             return;
         };
-        if let Some(number) = refusal(map, size) {
+        if let Some(number) = map.refusal(size) {
             self.stage = Stage::Refused(number);
             return;
         }
@@ -119,11 +144,12 @@ impl Lookup {
             Reply::Refused(number) => Stage::Declined(number),
             Reply::Down => Stage::Down,
             Reply::Serve => Stage::Served(node),
-            Reply::Ask { slot, peer } => self.redirected(size, hops, slot, peer, true).0,
-            Reply::Moved { slot, owner } => {
-                let (stage, followed) = self.redirected(size, hops, slot, owner, false);
+            Reply::Ask { slot, peer } => self.redirected(map, size, hops, slot, peer, None).0,
+            Reply::Moved { slot, owner, epoch } => {
+                let (stage, followed) = self.redirected(map, size, hops, slot, owner, Some(epoch));
                 if followed {
-                    map[slot as usize] = owner;
+                    map.owners[slot as usize] = owner;
+                    map.epochs[slot as usize] = epoch;
                 }
                 stage
             }
@@ -141,6 +167,7 @@ impl Lookup {
             Stage::Declined(number) => word(5, 0, number as u16),
             Stage::TooMany => word(6, 0, 0),
             Stage::Refused(number) => word(7, 0, number as u16),
+            Stage::Stale => word(8, 0, 0),
         };
         let kept = &self.key[..self.key.len().min(ROOM)];
         let (first, last) = (kept.first().unwrap_or(&0), kept.last().unwrap_or(&0));
@@ -149,18 +176,18 @@ impl Lookup {
 }
 
 fn reply_of(code: u64) -> Reply {
-    let (slot, node) = ((code >> 16) as u16, (code >> 32) as u16);
+    let (slot, node, epoch) = ((code >> 16) as u16, (code >> 32) as u16, code >> 48);
     match code as u16 {
         0 => Reply::Serve,
         1 => Reply::Refused(1),
         2 => Reply::Down,
         7 => Reply::Refused(7),
         3 => Reply::Ask { slot, peer: node },
-        _ => Reply::Moved { slot, owner: node },
+        _ => Reply::Moved { slot, owner: node, epoch },
     }
 }
 
-fn walked(map: &mut [u16], walk: &Walk) -> Lookup {
+fn walked(map: &mut Map, walk: &Walk) -> Lookup {
     let mut lookup = Lookup::start(map, walk.size, walk.household, &walk.key);
     for &code in &walk.replies {
         lookup.take(map, walk.size, reply_of(code));
@@ -169,14 +196,14 @@ fn walked(map: &mut [u16], walk: &Walk) -> Lookup {
 }
 
 #[inline(never)]
-fn plain(map: &mut [u16], walk: &Walk) -> u64 {
+fn plain(map: &mut Map, walk: &Walk) -> u64 {
     walked(map, walk).digest()
 }
 
 // ---- both agree
 
-fn code(kind: u64, slot: u16, node: u64) -> u64 {
-    kind + (slot as u64) * 65536 + node * 4294967296
+fn code(kind: u64, slot: u16, node: u64, epoch: u64) -> u64 {
+    kind + ((slot as u64) << 16) + (node << 32) + (epoch << 48)
 }
 
 fn pick<T: Copy>(numbers: &mut Numbers, from: &[T]) -> T {
@@ -192,19 +219,25 @@ fn any_length(numbers: &mut Numbers) -> usize {
     }
 }
 
-/// Mostly a redirection that is good; else one on another slot or to any node, another reply, or any number.
-fn any_reply(numbers: &mut Numbers, slot: u16, size: u16) -> u64 {
+/// One of so few that lower, equal and higher ones often meet.
+fn near_by(numbers: &mut Numbers, near: u64) -> u64 {
+    near + numbers.below(6)
+}
+
+/// Mostly a redirection that is not bad; else one on another slot or to any node, another reply, or any number.
+fn any_reply(numbers: &mut Numbers, slot: u16, size: u16, near: u64) -> u64 {
     let node = numbers.below(size.max(1) as u64);
+    let epoch = near_by(numbers, near);
     match numbers.below(16) {
         0 => numbers.next(),
-        1 => code(numbers.below(8), numbers.next() as u16, node),
-        2 => code(pick(numbers, &[3, 4]), slot, numbers.below(65536)),
-        3 => code(pick(numbers, &[0, 1, 2, 7]), slot, node),
-        _ => code(pick(numbers, &[3, 4]), slot, node),
+        1 => code(numbers.below(8), numbers.next() as u16, node, epoch),
+        2 => code(pick(numbers, &[3, 4]), slot, numbers.below(65536), epoch),
+        3 => code(pick(numbers, &[0, 1, 2, 7]), slot, node, epoch),
+        _ => code(pick(numbers, &[3, 4]), slot, node, epoch),
     }
 }
 
-fn any_walk(numbers: &mut Numbers) -> Walk {
+fn any_walk(numbers: &mut Numbers, near: u64) -> Walk {
     let size = match numbers.below(4) {
         0 => pick(numbers, &[0, 1, 2, 63, 64, 65, 65535]),
         _ => 1 + numbers.below(64) as u16,
@@ -212,21 +245,38 @@ fn any_walk(numbers: &mut Numbers) -> Walk {
     let length = any_length(numbers);
     let key = any_key(numbers, length);
     let slot = key_slot(&key);
-    let replies = (0..numbers.below(10)).map(|_| any_reply(numbers, slot, size)).collect();
+    let replies = (0..numbers.below(10)).map(|_| any_reply(numbers, slot, size, near)).collect();
     Walk { size, household: numbers.next(), key, replies }
 }
 
-/// Mostly 16,384 entries: owners in a roster, or any numbers.
-fn any_map(numbers: &mut Numbers) -> Vec<u16> {
-    let length = match numbers.below(12) {
+/// A list's length: mostly 16,384.
+fn any_entries(numbers: &mut Numbers) -> usize {
+    match numbers.below(24) {
         0 => pick(numbers, &[0, 1, SLOTS - 1, SLOTS + 1]),
         _ => SLOTS,
-    };
-    let most = pick(numbers, &[5, 64, 65536]);
-    (0..length).map(|_| numbers.below(most) as u16).collect()
+    }
 }
 
-const STAGES: [&str; 7] = ["asking", "served", "bad", "down", "declined", "too many", "refused"];
+/// Mostly one that a reply may have; else one far above them, with low bits as theirs, or the highest.
+fn any_epoch(numbers: &mut Numbers, near: u64) -> u64 {
+    let epoch = near_by(numbers, near);
+    match numbers.below(32) {
+        0 => u64::MAX,
+        1 | 2 => epoch + (1 << pick(numbers, &[16, 32, 48, 63])),
+        _ => epoch,
+    }
+}
+
+/// Owners in a roster, or any numbers, which are often none; an epoch beside each.
+fn any_map(numbers: &mut Numbers, near: u64) -> Map {
+    let most = pick(numbers, &[5, 64, 65536]);
+    Map {
+        owners: (0..any_entries(numbers)).map(|_| numbers.below(most) as u16).collect(),
+        epochs: (0..any_entries(numbers)).map(|_| any_epoch(numbers, near)).collect(),
+    }
+}
+
+const STAGES: [&str; 8] = ["asking", "served", "bad", "down", "declined", "too many", "stale", "refused"];
 
 fn stage_of(lookup: &Lookup) -> usize {
     match lookup.stage {
@@ -236,16 +286,18 @@ fn stage_of(lookup: &Lookup) -> usize {
         Stage::Down => 3,
         Stage::Declined(_) => 4,
         Stage::TooMany => 5,
-        Stage::Refused(_) => 6,
+        Stage::Stale => 6,
+        Stage::Refused(_) => 7,
     }
 }
 
-/// The same digest and the same map: maps of any length and entries, rosters and keys of any size, replies of all kinds.
+/// The same digest, owners and epochs: lists of any length and entries, rosters and keys of any size, replies of all kinds.
 fn agree(numbers: &mut Numbers, lookups: usize) {
-    let mut stages = [0; 7];
+    let mut stages = [0; STAGES.len()];
     for _ in 0..lookups {
-        let map = any_map(numbers);
-        let walk = any_walk(numbers);
+        let near = pick(numbers, &[0, 253, 40_000, 65_530]);
+        let map = any_map(numbers, near);
+        let walk = any_walk(numbers, near);
         let (mut ours, mut theirs, mut again) = (map.clone(), map.clone(), map);
         let same = proved(&mut ours, &walk) == plain(&mut theirs, &walk) && ours == theirs;
         assert!(same, "they differ at {walk:?}");
@@ -259,6 +311,9 @@ fn agree(numbers: &mut Numbers, lookups: usize) {
 
 const SIZE: u16 = 64;
 
+/// Beside every entry, and that of the MOVEDs that are followed, so that a walk goes the same way every time.
+const EPOCH: u64 = 7;
+
 /// A lookup of each key, with the replies that `replies` makes of its slot.
 fn walks(keys: &[Vec<u8>], replies: impl Fn(u16) -> Vec<u64>) -> Vec<Walk> {
     let walk = |(household, key): (u64, &Vec<u8>)| {
@@ -267,10 +322,11 @@ fn walks(keys: &[Vec<u8>], replies: impl Fn(u16) -> Vec<u64>) -> Vec<Walk> {
     (0..).zip(keys).map(walk).collect()
 }
 
-/// Best times of one lookup, in nanoseconds, on a map of so many entries.
+/// Best times of one lookup, in nanoseconds, on a map of so many entries, all of them in the roster.
 fn timed(walks: &[Walk], entries: usize) -> [f64; 2] {
     let calls = if walks[0].key.len() > 100 { 1_000 } else { 10_000 };
-    let mut ours: Vec<u16> = (0..entries).map(|s| (s % SIZE as usize) as u16).collect();
+    let owners = (0..entries).map(|s| (s % SIZE as usize) as u16).collect();
+    let mut ours = Map { owners, epochs: vec![EPOCH; entries] };
     let mut theirs = ours.clone();
     let walk = |i| &walks[i % walks.len()];
     times(calls, [&mut |i| proved(&mut ours, walk(i)), &mut |i| plain(&mut theirs, walk(i))])
@@ -280,7 +336,7 @@ const SERVE: u64 = 0;
 
 /// MOVED, ASK, MOVED and ASK, each to another node.
 fn redirections(slot: u16) -> Vec<u64> {
-    vec![code(4, slot, 3), code(3, slot, 9), code(4, slot, 17), code(3, slot, 60)]
+    vec![code(4, slot, 3, EPOCH), code(3, slot, 9, 0), code(4, slot, 17, EPOCH), code(3, slot, 60, 0)]
 }
 
 /// A reply's own time: what the rows with more and with fewer replies differ by.
@@ -299,6 +355,7 @@ fn rows(keys: &[Vec<u8>]) {
     row("started, redirected 4 times, served", redirected);
     let ended = timed(&walks(keys, |slot| [vec![SERVE], redirections(slot)].concat()), SLOTS);
     row("started, served, 4 replies after that", ended);
+    row("started, one MOVED that is stale", timed(&walks(keys, |slot| vec![code(4, slot, 3, EPOCH - 1)]), SLOTS));
     row("refused with 1", timed(&walks(keys, |_| vec![]), SLOTS - 1));
     differ("serve alone, by difference", served, started, 1.0);
     differ("a redirection alone", redirected, served, 4.0);
