@@ -1,14 +1,15 @@
 -- Bytes and numbers of a line: their bounds, and one more of them.
 use mathlib.Core.Path.{_≡_, refl, ap}
+use mathlib.Core.Bool.{true}
 use mathlib.Core.List.{List, [], _∷_, _++_, append-nil}
-use Prim.Native.Nat.{ℕ, zero, suc, _+_, _*_, _^_, _≤_, _<_}
-use native.Mathlib.Nat.{le-refl, pow-zero, pow-suc, pow-le-pow-right}
+use Prim.Native.Nat.{ℕ, zero, suc, _+_, _*_, _-_, _/_, _%_, _^_, _≤_, _<_}
+use native.Mathlib.Nat.{add-zero, le-refl, pow-zero, pow-suc, pow-le-pow-right}
 use native.Mathlib.Numerals.{add-one}
 use native.Mathlib.Omega.{arith}
-use lib.ListN.{length, drop, getD, set, drop-of-length-le, List·getD-eq-default}
-use lib.Seq.{drop-cons, set-at, append-snoc}
-use Rattle.hex.specs.Hex.{digit, byteAt, numberAt, bytesAt}
-use Rattle.hex.proofs.Digits.{digit-lt}
+use lib.ListN.{length, take, drop, getD, set, length-drop, drop-of-length-le, List·getD-eq-default}
+use lib.Seq.{take-length, drop-cons, getD-drop, set-at, append-snoc}
+use Rattle.hex.specs.Hex.{isDigit, digit, allDigits, byteAt, numberAt, bytesAt}
+use Rattle.hex.proofs.Digits.{digit-lt, digit-small, digit-in}
 
 pub byte-lt : (l : List ℕ) (i : ℕ) → byteAt l i < 256
 unfolding byteAt
@@ -21,13 +22,16 @@ byte-past l i h =
     let g : length l ≤ 2 * i + 1 = omega arith in
     rw (List·getD-eq-default {A = ℕ} l 0 h, List·getD-eq-default {A = ℕ} l 0 g)
 
--- the two digits of the byte i places after another
-pub two-digits : (l : List ℕ) (from i a b : ℕ) → a ≡ digit (getD l (2 * from + 2 * i) 0) → b ≡ digit (getD l (2 * from + 1 + 2 * i) 0) → a * 16 + b ≡ byteAt l (from + i)
+-- the byte at place i of a line of digits, from its two characters in one number
+pub pair-digits : (l : List ℕ) (i p : ℕ) → allDigits l ≡ true → 2 * i + 1 < length l → p ≡ getD l (2 * i) 0 + getD l (2 * i + 1) 0 * 256 → (isDigit (p % 256) ≡ true) × (isDigit (p / 256) ≡ true) × (digit (p % 256) * 16 + digit (p / 256) ≡ byteAt l i)
 unfolding byteAt
-two-digits l from i a b p q =
-    let e : 2 * (from + i) ≡ 2 * from + 2 * i = omega arith in
-    let f : 2 * from + 2 * i + 1 ≡ 2 * from + 1 + 2 * i = omega arith in
-    rw (p, q, e, f)
+pair-digits l i p d h e =
+    let a = digit-in l d (2 * i) (omega arith) in
+    let b = digit-in l d (2 * i + 1) h in
+    let g = digit-small (getD l (2 * i) 0) a in
+    let q : p % 256 ≡ getD l (2 * i) 0 = omega arith in
+    let r : p / 256 ≡ getD l (2 * i + 1) 0 = omega arith in
+    rw (q, r) (a, b, refl)
 
 -- a number of n bytes fits n bytes, and one of fewer than eight leaves room for one more in 64 bits
 pub number-lt : (l : List ℕ) (i n : ℕ) → numberAt l i n < 256 ^ n
@@ -65,3 +69,21 @@ more-bytes l out b k i v h e f = rw (e, f, drop-cons b i 0 h, add-one i, bytes-s
 
 pub all-bytes : (l b : List ℕ) (k i : ℕ) → i ≡ length b → bytesAt l k i ++ drop i b ≡ bytesAt l k (length b)
 all-bytes l b k i e = rw (e, drop-of-length-le b (le-refl (length b)), append-nil)
+
+-- the bytes of a line from a place on are the bytes of the part that begins there
+byte-in-part : (l : List ℕ) (from i : ℕ) → byteAt (drop (2 * from) l) i ≡ byteAt l (from + i)
+unfolding byteAt
+byte-in-part l from i =
+    let e : 2 * from + 2 * i ≡ 2 * (from + i) = omega arith in
+    let f : 2 * from + (2 * i + 1) ≡ 2 * (from + i) + 1 = omega arith in
+    simp (getD-drop, e, f)
+
+bytes-in-part : (l : List ℕ) (from i n : ℕ) → bytesAt (drop (2 * from) l) i n ≡ bytesAt l (from + i) n
+unfolding bytesAt
+bytes-in-part l from i zero = refl
+bytes-in-part l from i (suc n) =
+    let e : suc (from + i) ≡ from + suc i = omega arith in
+    rw (e, byte-in-part l from i, bytes-in-part l from (suc i) n)
+
+pub bytes-of-part : (l : List ℕ) (from n : ℕ) → bytesAt (take (length l - 2 * from) (drop (2 * from) l)) 0 n ≡ bytesAt l from n
+bytes-of-part l from n = rw (← length-drop (2 * from) l, take-length) (rw add-zero at (bytes-in-part l from 0 n))

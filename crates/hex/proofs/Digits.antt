@@ -1,12 +1,12 @@
 -- Which characters are digits, their values, and lines of them.
 use mathlib.Core.Path.{_≡_, refl, sym, _∙_}
 use mathlib.Core.Bool.{Bool, true, false, _&&_, and-assoc, and-true}
-use mathlib.Core.List.{List}
-use Prim.Native.Nat.{ℕ, _+_, _*_, _-_, _/_, _%_, _≤_, _<_}
+use mathlib.Core.List.{List, [], _∷_}
+use Prim.Native.Nat.{ℕ, zero, suc, _+_, _*_, _-_, _/_, _%_, _≤_, _<_}
 use native.Mathlib.Numerals.{add-one}
 use native.Mathlib.Omega.{arith}
-use lib.ListN.{length, drop, getD, set, drop-of-length-le}
-use lib.Seq.{drop-cons, getD-set-same, getD-set-other}
+use lib.ListN.{length, drop, getD, drop-of-length-le}
+use lib.Seq.{drop-cons}
 use mathlib.Core.Logic.{_⊎_, inl, inr, ⊎-elim}
 use lib.Dec.{ltb}
 use borrow.Author.Tests.{ltb-true, ltb-false, le-leb, lt-leb, lt-ltb, le-ltb}
@@ -84,6 +84,14 @@ digit-lt c = go (sort c)
     go (decimal h g t d) = omega arith
     go (letter h g t d) = omega arith
 
+pub digit-small : (c : ℕ) → isDigit c ≡ true → c < 103
+digit-small c e = go (sort c)
+  where
+    go : Sort c → c < 103
+    go (other t d) = let z : _≡_ {A = ℕ} 0 1 = cc in omega arith
+    go (decimal h g t d) = omega arith
+    go (letter h g t d) = omega arith
+
 -- a digit's value by one sum, and 0 for the rest
 pub by-sum : (c : ℕ) → isDigit c ≡ true → c % 16 + c / 64 * 9 ≡ digit c
 by-sum c e = go (sort c)
@@ -101,12 +109,18 @@ no-digit c e = go (sort c)
     go (decimal h g t d) = cc
     go (letter h g t d) = cc
 
--- one more entry of the table of values
-pub one-value : (t : List ℕ) (i v : ℕ) → i < length t → v ≡ digit i → ((c : ℕ) → c < i → getD t c 0 ≡ digit c) → (c : ℕ) → c < i + 1 → getD (set t i v) c 0 ≡ digit c
-one-value t i v h e below c k =
-    ⊎-elim (λ (g : c < i). getD-set-other t i c v 0 (λ (q : c ≡ i). omega arith) ∙ below c g)
-    (λ (g : i ≤ c). let q : c ≡ i = omega arith in rw q (getD-set-same t i v 0 h ∙ e))
-    (lt-or-ge c i)
+-- two digits in one number, the first lowest: their byte by one sum
+low-bit : (q k : ℕ) → q < 2 → (q + 4 * k) % 2 ≡ q
+low-bit q k h = omega arith
+
+pub two-by-sum : (p : ℕ) → isDigit (p % 256) ≡ true → isDigit (p / 256) ≡ true → (p % 16 + p / 64 % 2 * 9) * 16 + p / 256 % 16 + p / 16384 * 9 ≡ digit (p % 256) * 16 + digit (p / 256)
+two-by-sum p d e =
+    let g = digit-small (p % 256) d in
+    let a : p % 16 ≡ p % 256 % 16 = omega arith in
+    let k : p / 64 ≡ p % 256 / 64 + 4 * (p / 256) = omega arith in
+    let b : p / 64 % 2 ≡ p % 256 / 64 = rw k (low-bit (p % 256 / 64) (p / 256) (omega arith)) in
+    let f : p / 16384 ≡ p / 256 / 64 = omega arith in
+    rw (a, b, f, ← by-sum (p % 256) d, ← by-sum (p / 256) e) (omega arith)
 
 -- one more character looked at
 pub one-more : (l : List ℕ) (i : ℕ) (good t : Bool) → i < length l → t ≡ isDigit (getD l i 0) → allDigits l ≡ (good && allDigits (drop i l)) → allDigits l ≡ ((good && t) && allDigits (drop (i + 1) l))
@@ -116,3 +130,10 @@ one-more l i good t h d e = e ∙ rw (add-one i, drop-cons l i 0 h, d) (sym (and
 pub looked-at-all : (l : List ℕ) (i : ℕ) (good : Bool) → length l ≤ i → allDigits l ≡ (good && allDigits (drop i l)) → good ≡ allDigits l
 unfolding allDigits
 looked-at-all l i good h e = sym (e ∙ rw (drop-of-length-le l h) (and-true good))
+
+-- each character of a line of digits
+pub digit-in : (l : List ℕ) → allDigits l ≡ true → (k : ℕ) → k < length l → isDigit (getD l k 0) ≡ true
+unfolding allDigits
+digit-in [] e k h = let z : _≡_ {A = ℕ} 0 1 = omega arith in cc
+digit-in (c ∷ l) e zero h = both (isDigit c) (allDigits l) e .0
+digit-in (c ∷ l) e (suc k) h = digit-in l (both (isDigit c) (allDigits l) e .1) k (omega arith)

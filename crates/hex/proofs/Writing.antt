@@ -10,7 +10,7 @@ use lib.ListN.{length, drop, getD, length-append, length-drop, drop-of-length-le
 use lib.Seq.{drop-cons, drop-at, drop-append-add, getD-drop, getD-at}
 use borrow.Author.Tests.{lt-ltb, le-ltb}
 use Rattle.hex.specs.Hex.{isDigit, digit, allDigits, byteAt, numberAt, bytesAt, character, hex, bytesOf}
-use Rattle.hex.proofs.Digits.{Sort, sort, other, decimal, letter, lt-or-ge, decimals, letters, digit-lt, both}
+use Rattle.hex.proofs.Digits.{Sort, sort, other, decimal, letter, lt-or-ge, decimals, letters, digit-lt, digit-in}
 use Rattle.hex.proofs.Bytes.{byte-lt, bytes-snoc}
 
 -- a list of bytes
@@ -127,12 +127,6 @@ bytes-of-number l i (suc n) =
     let q : (numberAt l i n * 256 + byteAt l (i + n)) / 256 ≡ numberAt l i n = omega (arith, b) in
     let r : (numberAt l i n * 256 + byteAt l (i + n)) % 256 ≡ byteAt l (i + n) = omega (arith, b) in
     rw (q, r, bytes-of-number l i n) (sym (bytes-snoc l i n))
-
-digit-in : (l : List ℕ) → allDigits l ≡ true → (k : ℕ) → k < length l → isDigit (getD l k 0) ≡ true
-unfolding allDigits
-digit-in [] e k h = let z : _≡_ {A = ℕ} 0 1 = omega arith in cc
-digit-in (c ∷ l) e zero h = both (isDigit c) (allDigits l) e .0
-digit-in (c ∷ l) e (suc k) h = digit-in l (both (isDigit c) (allDigits l) e .1) k (omega arith)
 
 two-characters : (l : List ℕ) (i : ℕ) → allDigits l ≡ true → 2 * i + 1 < length l → (character (byteAt l i / 16) ≡ getD l (2 * i) 0) × (character (byteAt l i % 16) ≡ getD l (2 * i + 1) 0)
 unfolding byteAt

@@ -1,7 +1,7 @@
 -- Lowercase hexadecimal: digits, and the bytes and numbers of a line of them, read and written. Past a line's end its
 -- characters read as 0.
 use mathlib.Core.Path.{_≡_}
-use Prim.Native.Nat.{ℕ, zero, suc, _+_, _*_, _-_, _/_, _%_, _≤_, _<_}
+use Prim.Native.Nat.{ℕ, zero, suc, _+_, _*_, _-_, _/_, _%_, _≤_}
 use mathlib.Core.Bool.{Bool, true, cond, _&&_, _||_}
 use mathlib.Core.List.{List, [], _∷_, _++_}
 use lib.ListN.{length, take, drop, getD}
@@ -22,10 +22,6 @@ isDigit c = decimal c || letter c
 -- the value of a digit, 0 for any other character
 unfoldable pub digit : ℕ → ℕ
 digit c = cond (decimal c) (c - 48) (cond (letter c) (c - 87) 0)
-
--- a table of the values of all characters
-abbrev pub Values : List ℕ → Type 0
-Values table = (c : ℕ) → c < 256 → getD table c 0 ≡ digit c
 
 unfoldable pub allDigits : List ℕ → Bool
 allDigits [] = true

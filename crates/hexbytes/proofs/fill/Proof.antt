@@ -3,58 +3,32 @@ use mathlib.Core.Path.{_≡_, refl, _∙_}
 use mathlib.Core.List.{_++_}
 use Prim.Native.Nat.{_-_, _≤_}
 use native.Mathlib.Omega.{arith}
+use native.Mathlib.Nat.{zero-add}
 use lib.ListN.{length, drop, length-set}
 use Rattle.hex.specs.Hex.{bytesAt}
-use Rattle.hex.proofs.Bytes.{two-digits, more-bytes, all-bytes}
+use Rattle.hex.proofs.Bytes.{pair-digits, more-bytes, all-bytes}
 use borrow.Author.Needs.{needs}
 use Rattle.hexbytes.proofs.fill.Statement.{statement}
 use Rattle.hexbytes.proofs.fill.Tie as tie
 
 abbrev Inv-loop : tie.InvT-loop
-Inv-loop values line from out₀ first second i₀ out i = (i ≤ length out₀) × (length out ≡ length out₀) × (out ≡ bytesAt line from i ++ drop i out₀)
+Inv-loop part out₀ i₀ out i = (i ≤ length out₀) × (length out ≡ length out₀) × (out ≡ bytesAt part 0 i ++ drop i out₀)
 
 abbrev μ-loop : tie.MeasureT-loop
-μ-loop values line from out₀ first second i₀ out i = length out₀ - i
-
-mul-first : tie.Need-mul-first Inv-loop μ-loop
-mul-first c = search needs
-
-add-second : tie.Need-add-second Inv-loop μ-loop
-add-second c = search needs
+μ-loop part out₀ i₀ out i = length out₀ - i
 
 loop-holds : tie.Need-loop-holds Inv-loop μ-loop
 unfolding bytesAt
 loop-holds c = (search needs, refl, refl)
 
-mul-look-up : tie.Need-mul-look-up Inv-loop μ-loop
-mul-look-up c = search needs
+pair-at-requires : tie.Need-pair-at-requires Inv-loop μ-loop
+pair-at-requires c κs = search needs
 
-add-look-up : tie.Need-add-look-up Inv-loop μ-loop
-add-look-up c = search needs
-
-shared-slice-read-look-up : tie.Need-shared-slice-read-look-up Inv-loop μ-loop
-shared-slice-read-look-up c = search needs
-
-look-up-requires : tie.Need-look-up-requires Inv-loop μ-loop
-look-up-requires c κs = search needs
-
-mul-out : tie.Need-mul-out Inv-loop μ-loop
-mul-out c = search needs
-
-mul-look-up-2 : tie.Need-mul-look-up-2 Inv-loop μ-loop
-mul-look-up-2 c = search needs
-
-add-look-up-2 : tie.Need-add-look-up-2 Inv-loop μ-loop
-add-look-up-2 c = search needs
-
-shared-slice-read-look-up-2 : tie.Need-shared-slice-read-look-up-2 Inv-loop μ-loop
-shared-slice-read-look-up-2 c = search needs
-
-look-up-requires-2 : tie.Need-look-up-requires-2 Inv-loop μ-loop
-look-up-requires-2 c κs = search needs
-
-add-out : tie.Need-add-out Inv-loop μ-loop
-add-out c = search needs
+byte-of-requires : tie.Need-byte-of-requires Inv-loop μ-loop
+byte-of-requires c κs =
+    let s = c .before .before .before .before .before in
+    let d = pair-digits _ _ _ (s .pre .0) (omega arith) (c .pair-at .ensures) in
+    (d .0, d .1)
 
 slice-write-out : tie.Need-slice-write-out Inv-loop μ-loop
 slice-write-out c = search needs
@@ -67,8 +41,10 @@ loop-less c = search needs
 
 loop-again : tie.Need-loop-again Inv-loop μ-loop
 loop-again c =
-    let l = c .before .before .before .before .before .loop in
-    (search needs, rw length-set (l .inv .1), more-bytes _ _ _ _ _ _ (search needs) (l .inv .2) (two-digits _ _ _ _ _ (c .before .before .look-up .ensures .0) (c .look-up2 .ensures .0)))
+    let l = c .before .before .before .loop in
+    let s = c .before .before .before .before .before .before in
+    let d = pair-digits _ _ _ (s .pre .0) (omega arith) (c .before .pair-at .ensures) in
+    (search needs, rw length-set (l .inv .1), more-bytes _ _ _ 0 _ _ (search needs) (l .inv .2) (rw zero-add (c .byte-of .ensures ∙ d .2)))
 
 same-length : tie.Need-same-length Inv-loop μ-loop
 same-length c = c .before .loop .inv .1
@@ -82,19 +58,9 @@ fill-spec =
     (tie.spec
     Inv-loop
     μ-loop
-    mul-first
-    add-second
     loop-holds
-    mul-look-up
-    add-look-up
-    shared-slice-read-look-up
-    look-up-requires
-    mul-out
-    mul-look-up-2
-    add-look-up-2
-    shared-slice-read-look-up-2
-    look-up-requires-2
-    add-out
+    pair-at-requires
+    byte-of-requires
     slice-write-out
     add-i
     loop-less

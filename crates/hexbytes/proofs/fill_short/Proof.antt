@@ -11,10 +11,10 @@ use Rattle.hexbytes.proofs.fill_short.Statement.{statement}
 use Rattle.hexbytes.proofs.fill_short.Tie as tie
 
 abbrev Inv-loop : tie.InvT-loop
-Inv-loop line from out₀ i₀ out i = (i ≤ length out₀) × (length out ≡ length out₀) × (out ≡ bytesAt line from i ++ drop i out₀)
+Inv-loop line from out₀ k₀ out k = (k ≤ length out₀) × (length out ≡ length out₀) × (out ≡ bytesAt line from k ++ drop k out₀)
 
 abbrev μ-loop : tie.MeasureT-loop
-μ-loop line from out₀ i₀ out i = length out₀ - i
+μ-loop line from out₀ k₀ out k = length out₀ - k
 
 loop-holds : tie.Need-loop-holds Inv-loop μ-loop
 unfolding bytesAt
@@ -26,8 +26,8 @@ byte-after-requires c κs = search needs
 slice-write-out : tie.Need-slice-write-out Inv-loop μ-loop
 slice-write-out c = search needs
 
-add-i : tie.Need-add-i Inv-loop μ-loop
-add-i c = search needs
+add-k : tie.Need-add-k Inv-loop μ-loop
+add-k c = search needs
 
 loop-less : tie.Need-loop-less Inv-loop μ-loop
 loop-less c = search needs
@@ -52,7 +52,7 @@ fill-short-spec =
     loop-holds
     byte-after-requires
     slice-write-out
-    add-i
+    add-k
     loop-less
     loop-again
     same-length
