@@ -14,8 +14,9 @@ use lib.Seq.{drop-cons}
 use borrow.Author.Tests.{eq-eqb, ne-eqb, eqb-true, eqb-false}
 use Rattle.tables.specs.Sets.{bit, claimed}
 use Rattle.tables.proofs.Checks.{never}
-use Rattle.tables.proofs.Groups.{first-group, later-group, bit-half}
+use Rattle.tables.proofs.Groups.{first-group, later-group}
 use Rattle.tables.proofs.Sets.{bit-zero}
+use Rattle.bitmaps.proofs.Scan.{bit-suc}
 use Rattle.claims.specs.Claims.{empty, EmptyExactly}
 
 -- ---- a loop over the bytes that has come to place k
@@ -34,9 +35,6 @@ module _ (bitmap : List ℕ) (k : ℕ) where
 
 low-apart : (b n : ℕ) → b % 2 ^ suc n ≡ b / 2 % 2 ^ n * 2 + b % 2
 low-apart b n = rw (← add-one n) (mod-pow-add b n 1)
-
-bit-suc : (b k : ℕ) → bit b (suc k) ≡ bit (b / 2) k
-bit-suc b k = let e : suc k ≡ 1 + k = omega arith in ap (bit b) e ∙ sym (bit-half b k)
 
 no-bit : (n b k : ℕ) → k < n → b % 2 ^ n ≡ 0 → bit b k ≡ false
 no-bit zero b k h e = absurd (omega arith)

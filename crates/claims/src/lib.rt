@@ -3,7 +3,6 @@
 ghost use mathlib.Core.Path.{_≡_};
 ghost use lib.ListN.{getD};
 ghost use Rattle.tables.specs.Lists.{firstAt};
-ghost use Rattle.tables.specs.Sets.{claimed};
 ghost use Rattle.claims.specs.Claims.{empty, newerOwner};
 use tables::Found;
 
@@ -21,36 +20,27 @@ pub fn empty(bitmap: &[u8]) -> bool
     true
 }
 
-fn claimed(bitmap: &[u8], slot: usize) -> bool
-    ensures { λ r. ⌜ r ≡ claimed (now (bitmap .entry)) slot ⌝ }
-{
-    let k = slot / 8;
-    if k < bitmap.len() {
-        return (bitmap[k] >> (slot % 8)) % 2 == 1;
-    }
-    false
-}
-
-// The lowest claimed slot whose owner, one of so many nodes, has a known configEpoch above the request's.
+// The lowest claimed slot whose owner, one of so many nodes, has a known configEpoch above the request's. The claims are read 64 at a
+// time, so that zero bytes are passed over together (document 02, [2]).
 pub fn first_newer(size: u16, configs: &[u64], slots: &[u16], bitmap: &[u8], config: u64) -> Found
     ensures { λ r. ⌜ r ≡ firstAt (newerOwner size (λ o. getD (now (configs .entry)) o 0) (now (bitmap .entry)) config) (now (slots .entry)) ⌝ }
 {
-    let mut s: usize = 0;
-    while s < slots.len() {
-        if !claimed(bitmap, s) {
-            s += 1;
-            continue;
+    let mut from: usize = 0;
+    while from < slots.len() {
+        let mut word = bitmaps::word_at(bitmap, from / 8, slots.len() - from);
+        while word != 0 {
+            let s = from + u64::trailing_zeros(word) as usize;
+            word = word & (word - 1);
+            let owner = slots[s];
+            if owner >= size {
+                continue;
+            }
+            if records::known_at(configs, owner as usize) <= config {
+                continue;
+            }
+            return Found::At(s);
         }
-        let owner = slots[s];
-        if owner >= size {
-            s += 1;
-            continue;
-        }
-        if records::known_at(configs, owner as usize) <= config {
-            s += 1;
-            continue;
-        }
-        return Found::At(s);
+        from += 64;
     }
     Found::Nothing
 }

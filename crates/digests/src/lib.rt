@@ -13,7 +13,8 @@ use state::Role;
 use state::Verdict;
 use tables::Found;
 
-fn place(found: Found) -> u64
+// A place, counted from 1: 0 for nothing.
+pub fn place(found: Found) -> u64
     ensures { λ r. ⌜ r ≡ place found ⌝ }
 {
     match found {

@@ -1,4 +1,3 @@
-pub mod Claims
 pub mod Frames
 pub mod Listings
 pub mod Steps

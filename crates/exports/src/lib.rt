@@ -1,14 +1,12 @@
 // What C and Rust programs may call: each function here hands on to a proved one, under a name of its own.
 ghost use mathlib.Core.Path.{_≡_};
 ghost use Rattle.slots.specs.Key.{keySlot};
-ghost use Rattle.ownership.specs.Claim.{claimant, claim};
 ghost use Rattle.listing.specs.Listing.{lists};
 ghost use Rattle.state.specs.Outcomes.{Stepped};
 ghost use Rattle.cases.specs.Cases.{casesNode};
 ghost use Rattle.rosters.specs.Rosters.{roster};
 ghost use Rattle.frames.specs.Frames.{layoutOf, bitmapOf, frameOf};
 ghost use Rattle.digests.specs.Frames.{frameDigest};
-ghost use Rattle.exports.specs.Claims.{digested, Digested};
 ghost use Rattle.exports.specs.Frames.{byLayout, bitmapAfter};
 ghost use Rattle.exports.specs.Listings.{numbered, Numbered};
 ghost use Rattle.exports.specs.Steps.{first, again, repeated, Repeated};
@@ -25,21 +23,6 @@ pub extern "C" fn ukweribaso_key_slot(key: &[u8]) -> u16
     ensures { λ r. ⌜ r ≡ keySlot (now (key .entry)) ⌝ }
 {
     slots::key_slot(key)
-}
-
-// A master's claims on the slot table: document 01, "Heartbeat".
-#[no_mangle]
-pub extern "C" fn ukweribaso_claim(
-    slots: &mut [u16],
-    bitmap: &[u8],
-    configs: &[u64],
-    size: u16,
-    sender: u16,
-    config: u64,
-) -> u64
-    ensures { λ r. ⌜ record { digest = r; slots = now (slots .exit) } ≡ digested (claim (claimant (now (configs .entry)) size sender config) (now (bitmap .entry)) (now (slots .entry))) ⌝ }
-{
-    digests::of_tally(ownership::claim(slots, bitmap, configs, size, sender, config))
 }
 
 // The ranges of a slot table, written to the list: document 02, [1]. It answers 0, 1 or 40.

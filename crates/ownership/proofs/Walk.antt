@@ -1,21 +1,21 @@
 -- The walk over the slots: what was done and counted below s, with what the slots from s on come to, is the whole claim.
 use mathlib.Core.Path.{_≡_, refl, sym, ap, _∙_}
-use mathlib.Core.Bool.{Bool, true, false, cond}
-use mathlib.Core.List.{List, _++_}
-use Prim.Native.Nat.{ℕ, _+_, _*_, _/_, _%_, _^_, _≤_, _<_}
-use native.Mathlib.Nat.{add-zero, zero-add, le-trans, zero-div}
+use mathlib.Core.Bool.{true, false}
+use mathlib.Core.List.{List, _++_, append-nil}
+use Prim.Native.Nat.{ℕ, _+_, _-_, _≤_, _<_}
+use native.Mathlib.Nat.{add-zero, zero-add}
+use native.Mathlib.Decide.{decLt}
 use native.Mathlib.Omega.{arith}
-use lib.ListN.{length, take, drop, getD, set, length-drop, length-set, take-append-drop, List·getD-eq-default}
-use lib.Dec.{leb}
-use borrow.Author.Tests.{eq-eqb, ne-eqb, leb-true, leb-false}
+use lib.ListN.{length, take, drop, getD, set, length-set, drop-of-length-le}
+use lib.Seq.{take-all}
 use Rattle.tables.specs.Lists.{mapFrom, countFrom, firstFrom}
-use Rattle.tables.specs.Sets.{bit, claimed}
+use Rattle.tables.specs.Sets.{claimed}
 use Rattle.tables.specs.declared.Found.{Found}
 use Rattle.tables.specs.declared.Found.the-variants.{Nothing, At}
 use Rattle.ownership.specs.Claim.{Claimant, Claimed, fate, fateAt, entryAfter, isBound, isRebound, isStale, orElse, claim}
 use Rattle.ownership.specs.declared.Fate.{Fate}
 use Rattle.ownership.specs.declared.Fate.the-variants.{Bound, Rebound, Stale, Stays}
-use Rattle.tables.proofs.Walks.{Turn, stored, kept, map-turn, count-hit, count-miss, first-hit, first-miss, map-kept, count-none, first-none}
+use Rattle.tables.proofs.Walks.{Turn, stored, kept, map-turn, count-hit, count-miss, first-hit, first-miss, stretch}
 
 -- two searches, one after the other
 or-else-assoc : (a b c : Found) → orElse (orElse a b) c ≡ orElse a (orElse b c)
@@ -75,105 +75,78 @@ module _ (c : Claimant) (m : List ℕ) where
         (rw (or-else-assoc, first-hit 0 h t (λ k o. isStale (fateAt c m k o)) (ap isStale e)))
 
   -- a slot that is claimed has the fate of its entry, another stays
-  by-entry : (s o : ℕ) (φ : Fate) → getD m (s / 8) 0 / 2 ^ (s % 8) % 2 ≡ 1 → fate c o ≡ φ → fateAt c m s o ≡ φ
-  by-entry s o φ h e = rw (eq-eqb _ _ h) e
+  by-entry : (s o : ℕ) (φ : Fate) → claimed m s ≡ true → fate c o ≡ φ → fateAt c m s o ≡ φ
+  by-entry s o φ h e = rw h e
 
-  unclaimed : (s o : ℕ) → (getD m (s / 8) 0 / 2 ^ (s % 8) % 2 ≡ 1 → ⊥) → fateAt c m s o ≡ Stays
-  unclaimed s o h = rw (ne-eqb _ _ h)
+  pub unclaimed : (s o : ℕ) → claimed m s ≡ false → fateAt c m s o ≡ Stays
+  unclaimed s o h = rw h
 
-  -- past the last claimed slot nothing is left to do
-  ends : (s : ℕ) (l : List ℕ) (b r : ℕ) (z : Found) → ((k : ℕ) → s ≤ k → k < length l → claimed m k ≡ false)
-      → left c m s l b r z ≡ record { tally = record { bound = b; rebound = r; stale = z }; slots = l }
-  unfolding left
-  ends s l b r z f =
-      let stay : (k : ℕ) (o : ℕ) → s ≤ k → k < s + length (drop s l) → fateAt c m k o ≡ Stays = λ k o h g. rw (f k h (past k h g)) in
-      rw (count-none (λ k o. isBound (fateAt c m k o)) s (drop s l) (λ k o h g. ap isBound (stay k o h g)), count-none (λ k o. isRebound (fateAt c m k o)) s (drop s l) (λ k o h g. ap isRebound (stay k o h g)), first-none (λ k o. isStale (fateAt c m k o)) s (drop s l) (λ k o h g. ap isStale (stay k o h g)), map-kept (λ k o. entryAfter c (fateAt c m k o) o) s (drop s l) (λ k o h g. ap (λ (φ : Fate). entryAfter c φ o) (stay k o h g)), or-else-nothing, take-append-drop, add-zero b, add-zero r)
-    where
-      past : (k : ℕ) → s ≤ k → k < s + length (drop s l) → k < length l
-      past k h g = omega (arith, length-drop s l)
+  module _ (l : List ℕ) (b r : ℕ) (z : Found) where
+    -- past the table's end nothing is left to do
+    ends : (s : ℕ) → length l ≤ s → left c m s l b r z ≡ record { tally = record { bound = b; rebound = r; stale = z }; slots = l }
+    unfolding left mapFrom countFrom firstFrom
+    ends s h = rw (drop-of-length-le l h, take-all s l h, append-nil, or-else-nothing, add-zero b, add-zero r)
 
--- ---- how far the walk goes: the shorter of the table and the bitmap
+    -- a place where nothing changes: a slot that stays, or none
+    still : (s : ℕ) → (s < length l → fateAt c m s (getD l s 0) ≡ Stays) → left c m s l b r z ≡ left c m (s + 1) l b r z
+    still s f = by (decLt s (length l))
+      where
+        by : Dec (s < length l) → left c m s l b r z ≡ left c m (s + 1) l b r z
+        by (yes h) = stays s l b r z h (f h)
+        by (no g) = ends s (omega arith) ∙ sym (ends (s + 1) (omega arith))
 
-abbrev pub Reach : ℕ → ℕ → ℕ
-Reach slots bytes = cond (leb bytes (slots / 8)) (bytes * 8) slots
+-- ---- where the walk stands at slot s of a table of n: what was done below it, with what is left, comes to g
 
-within-table : (slots bytes : ℕ) → Reach slots bytes ≤ slots
-within-table slots bytes = go (leb bytes (slots / 8)) refl
-  where
-    go : (t : Bool) → leb bytes (slots / 8) ≡ t → cond t (bytes * 8) slots ≤ slots
-    go true e = let h : bytes ≤ slots / 8 = leb-true _ _ e in omega arith
-    go false e = omega arith
-
-within-bitmap : (slots bytes : ℕ) → Reach slots bytes ≤ bytes * 8
-within-bitmap slots bytes = go (leb bytes (slots / 8)) refl
-  where
-    go : (t : Bool) → leb bytes (slots / 8) ≡ t → cond t (bytes * 8) slots ≤ bytes * 8
-    go true e = omega arith
-    go false e = let h : slots / 8 < bytes = leb-false _ _ e in omega arith
-
-no-bits : (n : ℕ) → bit 0 n ≡ false
-no-bits n = let e : 0 / 2 ^ n ≡ 0 = zero-div (2 ^ n) in rw e
-
-beyond : (m : List ℕ) (slots k : ℕ) → Reach slots (length m) ≤ k → k < slots → claimed m k ≡ false
-beyond m slots k h g = rw (List·getD-eq-default m 0 (short (leb (length m) (slots / 8)) h)) (no-bits (k % 8))
-  where
-    short : (t : Bool) → cond t (length m * 8) slots ≤ k → length m ≤ k / 8
-    short true h = omega arith
-    short false h = absurd (omega arith)
-
--- ---- the loop's invariant at slot s
-
-pub record Stands (c : Claimant) (m l₀ : List ℕ) (end s : ℕ) (l : List ℕ) (b r : ℕ) (z : Found) : Type 0 where
-  pub table : end ≤ length l₀
-  pub bitmap : end ≤ length m * 8
-  pub long : length l ≡ length l₀
+pub record Stands (c : Claimant) (m : List ℕ) (g : Claimed) (n s : ℕ) (l : List ℕ) (b r : ℕ) (z : Found) : Type 0 where
+  pub long : length l ≡ n
   pub bounds : b ≤ s
   pub rebounds : r ≤ s
-  pub is : left c m s l b r z ≡ claim c m l₀
+  pub is : left c m s l b r z ≡ g
 
-module _ {c : Claimant} {m l₀ : List ℕ} where
-  pub begin : {end : ℕ} → end ≡ Reach (length l₀) (length m) → Stands c m l₀ end 0 l₀ 0 0 Nothing
-  begin e = record {
-    table = rw e (within-table (length l₀) (length m));
-    bitmap = rw e (within-bitmap (length l₀) (length m));
-    long = refl;
-    bounds = omega arith;
-    rebounds = omega arith;
-    is = starts c m l₀;
-  }
+-- at the start it comes to the claim
+pub begin : {c : Claimant} {m l : List ℕ} → Stands c m (claim c m l) (length l) 0 l 0 0 Nothing
+begin {c} {m} {l} = record { long = refl; bounds = omega arith; rebounds = omega arith; is = starts c m l }
 
-  module _ {end s : ℕ} {l : List ℕ} {b r : ℕ} {z : Found} (i : Stands c m l₀ end s l b r z) where
+module _ {c : Claimant} {m : List ℕ} {g : Claimed} {n : ℕ} where
+  module _ {s : ℕ} {l : List ℕ} {b r : ℕ} {z : Found} (i : Stands c m g n s l b r z) where
+    -- a walk that goes on from here: it starts with what is left here, and comes to the same
+    pub onwards : Stands c m (left c m s l b r z) (length l) s l b r z
+    onwards = record { long = refl; bounds = i .bounds; rebounds = i .rebounds; is = refl }
+
+    pub joined : {s' : ℕ} {l' : List ℕ} {b' r' : ℕ} {z' : Found} → Stands c m (left c m s l b r z) (length l) s' l' b' r' z' → Stands c m g n s' l' b' r' z'
+    joined j = record { long = j .long ∙ i .long; bounds = j .bounds; rebounds = j .rebounds; is = j .is ∙ i .is }
+
     -- a turn that leaves l', b', r' and z'
-    on : {l' : List ℕ} {b' r' : ℕ} {z' : Found} → length l' ≡ length l → b' ≤ b + 1 → r' ≤ r + 1 → left c m s l b r z ≡ left c m (s + 1) l' b' r' z' → Stands c m l₀ end (s + 1) l' b' r' z'
+    on : {l' : List ℕ} {b' r' : ℕ} {z' : Found} → length l' ≡ length l → b' ≤ b + 1 → r' ≤ r + 1 → left c m s l b r z ≡ left c m (s + 1) l' b' r' z' → Stands c m g n (s + 1) l' b' r' z'
     on k hb hr e = record {
-      table = i .table;
-      bitmap = i .bitmap;
       long = k ∙ i .long;
       bounds = omega (arith, i .bounds);
       rebounds = omega (arith, i .rebounds);
       is = sym e ∙ i .is;
     }
 
-    module _ (t : s < end) where
-      in-table : s < length l
-      in-table = omega (arith, i .table, i .long)
+    module _ (t : s < length l) where
+      module _ (claims : claimed m s ≡ true) where
+        pub binds : fate c (getD l s 0) ≡ Bound → Stands c m g n (s + 1) (set l s (c .sender)) (b + 1) r z
+        binds e = on (length-set l s (c .sender)) (omega arith) (omega arith) (bound c m s l b r z t (by-entry c m s (getD l s 0) Bound claims e))
 
-      module _ (claims : getD m (s / 8) 0 / 2 ^ (s % 8) % 2 ≡ 1) where
-        pub binds : fate c (getD l s 0) ≡ Bound → Stands c m l₀ end (s + 1) (set l s (c .sender)) (b + 1) r z
-        binds e = on (length-set l s (c .sender)) (omega arith) (omega arith) (bound c m s l b r z in-table (by-entry c m s (getD l s 0) Bound claims e))
+        pub rebinds : fate c (getD l s 0) ≡ Rebound → Stands c m g n (s + 1) (set l s (c .sender)) b (r + 1) z
+        rebinds e = on (length-set l s (c .sender)) (omega arith) (omega arith) (rebound c m s l b r z t (by-entry c m s (getD l s 0) Rebound claims e))
 
-        pub rebinds : fate c (getD l s 0) ≡ Rebound → Stands c m l₀ end (s + 1) (set l s (c .sender)) b (r + 1) z
-        rebinds e = on (length-set l s (c .sender)) (omega arith) (omega arith) (rebound c m s l b r z in-table (by-entry c m s (getD l s 0) Rebound claims e))
+        pub tells : {z' : Found} → z' ≡ orElse z (At s) → fate c (getD l s 0) ≡ Stale → Stands c m g n (s + 1) l b r z'
+        tells q e = on refl (omega arith) (omega arith) (stale c m s l b r z t (by-entry c m s (getD l s 0) Stale claims e) ∙ ap (left c m (s + 1) l b r) (sym q))
 
-        pub tells : {z' : Found} → z' ≡ orElse z (At s) → fate c (getD l s 0) ≡ Stale → Stands c m l₀ end (s + 1) l b r z'
-        tells q e = on refl (omega arith) (omega arith) (stale c m s l b r z in-table (by-entry c m s (getD l s 0) Stale claims e) ∙ ap (left c m (s + 1) l b r) (sym q))
+        pub keeps : fate c (getD l s 0) ≡ Stays → Stands c m g n (s + 1) l b r z
+        keeps e = on refl (omega arith) (omega arith) (stays c m s l b r z t (by-entry c m s (getD l s 0) Stays claims e))
 
-        pub keeps : fate c (getD l s 0) ≡ Stays → Stands c m l₀ end (s + 1) l b r z
-        keeps e = on refl (omega arith) (omega arith) (stays c m s l b r z in-table (by-entry c m s (getD l s 0) Stays claims e))
+    -- slots up to s' that stay
+    pub passes : {s' : ℕ} → s ≤ s' → ((k : ℕ) → s ≤ k → k < s' → k < length l → fateAt c m k (getD l k 0) ≡ Stays) → Stands c m g n s' l b r z
+    passes {s'} h f = record {
+      long = i .long;
+      bounds = omega (arith, i .bounds);
+      rebounds = omega (arith, i .rebounds);
+      is = let e : s + (s' - s) ≡ s' = omega arith in sym (rw e at (stretch (λ k. left c m k l b r z) s (s' - s) (λ k a t. still c m l b r z k (f k a (omega arith))))) ∙ i .is;
+    }
 
-      pub passes : (getD m (s / 8) 0 / 2 ^ (s % 8) % 2 ≡ 1 → ⊥) → Stands c m l₀ end (s + 1) l b r z
-      passes e = on refl (omega arith) (omega arith) (stays c m s l b r z in-table (unclaimed c m s (getD l s 0) e))
-
-    pub finish : end ≡ Reach (length l₀) (length m) → end ≤ s → record { tally = record { bound = b; rebound = r; stale = z }; slots = l } ≡ claim c m l₀
-    finish e h =
-        sym (ends c m s l b r z (λ k g f. beyond m (length l₀) k (rw e at (le-trans h g)) (rw (i .long) at f))) ∙ i .is
+    pub finish : length l ≤ s → record { tally = record { bound = b; rebound = r; stale = z }; slots = l } ≡ g
+    finish h = sym (ends c m l b r z s h) ∙ i .is

@@ -1,9 +1,12 @@
-// Who owns a slot: what a master's bitmap makes of the slot table. Document 01, "Heartbeat", the claims.
+// Who owns a slot: what a master's bitmap makes of the slot table. Document 01, "Heartbeat", the claims. They are read 64 at a time:
+// zero bytes are passed over together, and so are slots that are the sender's own already (document 02, [2]).
 ghost use mathlib.Core.Path.{_≡_};
 ghost use mathlib.Core.Bool.{cond};
-ghost use Prim.Native.Nat.{_*_, _/_};
-ghost use lib.Dec.{leb};
+ghost use Prim.Native.Nat.{_+_, _-_, _*_, _/_, _≤_, _<_, min};
+ghost use lib.ListN.{length};
+ghost use Rattle.tables.specs.Sets.{claimed, wordOf};
 ghost use Rattle.ownership.specs.Claim.{claimant, fate, orElse, claim};
+ghost use Rattle.ownership.specs.Own.{own, allOwn};
 use answers::Tally;
 use tables::Found;
 
@@ -49,17 +52,48 @@ fn lowest(found: Found, s: usize) -> Found
     }
 }
 
-// How many slots of the table the bitmap's bytes speak of.
-fn reach(slots: usize, bytes: usize) -> usize
-    ensures { λ r. ⌜ r ≡ cond (leb bytes (slots / 8)) (bytes * 8) slots ⌝ }
+// Whether the 64 slots from a place on are all a node's own. After the first there is no early end, so that the processor compares
+// several entries at once.
+fn own_from(slots: &[u16], from: usize, node: u16) -> bool
+    requires { ⌜ from + 64 ≤ length (now slots) ⌝ }
+    ensures { λ r. ⌜ r ≡ own node (now (slots .entry)) from ⌝ }
 {
-    if bytes <= slots / 8 {
-        return bytes * 8;
+    if slots[from] != node {
+        return false;
     }
-    slots
+    let mut all = true;
+    let mut k: usize = 0;
+    while k < 64 {
+        all = all & (slots[from + k] == node);
+        k += 1;
+    }
+    all
 }
 
-// A master's claims: each slot of the bitmap goes to the sender or stays, by its owner's known configEpoch and the frame's.
+// The claims on the 64 slots from a place on that have to be looked at, a bit each: none where all 64 are the sender's own.
+fn pending(slots: &[u16], bitmap: &[u8], from: usize, size: u16, sender: u16) -> u64
+    requires { ⌜ (from < length (now slots)) × (8 * (from / 8) ≡ from) ⌝ }
+    ensures { λ r. ⌜ r ≡ cond (allOwn size sender (now (slots .entry)) from) 0 (wordOf (claimed (now (bitmap .entry))) from (min (length (now (slots .entry)) - from) 64)) ⌝ }
+{
+    let left = slots.len() - from;
+    let word = bitmaps::word_at(bitmap, from / 8, left);
+    if word == 0 {
+        return 0;
+    }
+    if sender >= size {
+        return word;
+    }
+    if left < 64 {
+        return word;
+    }
+    if own_from(slots, from, sender) {} else {
+        return word;
+    }
+    0
+}
+
+// A master's claims: each slot of the bitmap goes to the sender or stays, by its owner's known configEpoch and the frame's. A word's
+// bits are taken from the lowest on.
 pub fn claim(
     slots: &mut [u16],
     bitmap: &[u8],
@@ -70,15 +104,15 @@ pub fn claim(
 ) -> Tally
     ensures { λ r. ⌜ record { tally = r; slots = now (slots .exit) } ≡ claim (claimant (now (configs .entry)) size sender config) (now (bitmap .entry)) (now (slots .entry)) ⌝ }
 {
-    let end = reach(slots.len(), bitmap.len());
     let mut bound: usize = 0;
     let mut rebound: usize = 0;
     let mut stale = Found::Nothing;
-    let mut next: usize = 0;
-    while next < end {
-        let s = next;
-        next += 1;
-        if (bitmap[s / 8] >> (s % 8)) % 2 == 1 {
+    let mut from: usize = 0;
+    while from < slots.len() {
+        let mut word = pending(slots, bitmap, from, size, sender);
+        while word != 0 {
+            let s = from + u64::trailing_zeros(word) as usize;
+            word = word & (word - 1);
             match fate_of(slots[s], configs, size, sender, config) {
                 Fate::Bound => {
                     slots[s] = sender;
@@ -92,6 +126,7 @@ pub fn claim(
                 Fate::Stays => {}
             }
         }
+        from += 64;
     }
     Tally {
         bound,

@@ -203,7 +203,7 @@ cond-false : (t : Bool) → cond t false false ≡ false
 cond-false true = refl
 cond-false false = refl
 
-bit-word : (p : ℕ → Bool) (from n k : ℕ) → bit (wordOf p from n) k ≡ cond (ltb k n) (p (from + k)) false
+pub bit-word : (p : ℕ → Bool) (from n k : ℕ) → bit (wordOf p from n) k ≡ cond (ltb k n) (p (from + k)) false
 unfolding wordOf
 bit-word p from zero k = bit-zero k ∙ rw (le-ltb k 0 (omega arith))
 bit-word p from (suc n) k = by (p (from + n)) refl (bit-word p from n k)
@@ -243,7 +243,7 @@ has-words p from (suc n) k = by (decLt k 64) (has-words p (from + 64) n (k - 64)
         later (yes l) = lt-ltb _ _ l ∙ sym (lt-ltb k (64 * suc n) (omega arith))
         later (no l) = le-ltb (k - 64) (64 * n) (omega arith) ∙ sym (le-ltb k (64 * suc n) (omega arith))
 
-word-fits : (p : ℕ → Bool) (from n : ℕ) → wordOf p from n < 2 ^ n
+pub word-fits : (p : ℕ → Bool) (from n : ℕ) → wordOf p from n < 2 ^ n
 unfolding wordOf
 word-fits p from zero = omega arith
 word-fits p from (suc n) = by (p (from + n)) (word-fits p from n)

@@ -55,6 +55,12 @@ module _ {A : Type 0} {l m : List A} {s : ℕ} {v : A} (d : A) (h : s < length l
   unfolding firstFrom
   first-miss p e = rw (t .rest, add-one s, drop-cons l s d h, firstFrom, e)
 
+-- ---- a stretch of places, none of which changes a value
+
+pub stretch : {A : Type 0} (f : ℕ → A) (s n : ℕ) → ((k : ℕ) → s ≤ k → k < s + n → f k ≡ f (k + 1)) → f s ≡ f (s + n)
+stretch f s zero e = rw (add-zero s)
+stretch f s (suc n) e = let a : s + 1 + n ≡ s + suc n = omega arith in e s (omega arith) (omega arith) ∙ rw a at (stretch f (s + 1) n (λ k h g. e k (omega arith) (omega arith)))
+
 -- ---- a rest in which nothing changes, nothing counts and nothing is found
 
 pub map-kept : {A : Type 0} (f : ℕ → A → A) (i : ℕ) (l : List A) → ((k : ℕ) (x : A) → i ≤ k → k < i + length l → f k x ≡ x) → mapFrom f i l ≡ l

@@ -52,7 +52,7 @@ and-digit (suc zero) (suc (suc s)) h g = absurd (omega arith)
 and-digit (suc (suc r)) s h g = absurd (omega arith)
 
 -- a bit of both words
-bits-both : (a b k : ℕ) → bit (bitAnd a b) k ≡ cond (bit a k) (bit b k) false
+pub bits-both : (a b k : ℕ) → bit (bitAnd a b) k ≡ cond (bit a k) (bit b k) false
 bits-both a b k =
     let d : bitAnd a b / 2 ^ k % 2 ≡ bitAnd (a / 2 ^ k % 2) (b / 2 ^ k % 2) = ap (λ (x : ℕ). x % 2) (and-shr a b k) ∙ and-mod (a / 2 ^ k) (b / 2 ^ k) 1 in
     ap (λ (x : ℕ). eqb x 1) d ∙ and-digit (a / 2 ^ k % 2) (b / 2 ^ k % 2) (mod-lt (a / 2 ^ k) two) (mod-lt (b / 2 ^ k) two)

@@ -1,95 +1,115 @@
--- `claims::first_newer` meets its contract: a search from the front.
-use Prim.Native.Nat.{_-_}
+-- `claims::first_newer` meets its contract: a search from the front, from one claimed slot to the next.
+use mathlib.Core.Path.{_≡_, refl}
+use Prim.Native.Nat.{_-_, _*_, _/_}
 use native.Mathlib.Omega.{arith}
+use lib.Count.{trailing-le}
 use lib.ListN.{length, getD}
 use borrow.Author.Tests.{lt-ltb, le-ltb}
-use Rattle.tables.proofs.Checks.{no, yes}
-use Rattle.tables.proofs.Walks.{Looked, looked-none, looked-more, looked-here, looked-all}
+use Rattle.bitmaps.proofs.Scan.{rest-less}
+use Rattle.bitmaps.proofs.Claims.{in-table, is-claimed}
 use Rattle.claims.specs.Claims.{newerOwner}
+use Rattle.claims.proofs.Search.{Come, Searches, set-out, arrived, opens, closes, here, searches-on}
 use borrow.Author.Needs.{needs}
 use Rattle.claims.proofs.first_newer.Statement.{statement}
 use Rattle.claims.proofs.first_newer.Tie as tie
 
+abbrev Inv-loop2 : tie.InvT-loop2
+Inv-loop2 size configs slots bitmap config from word₀ word = Searches (newerOwner size (λ o. getD configs o 0) bitmap config) slots bitmap from word
+
+abbrev μ-loop2 : tie.MeasureT-loop2
+μ-loop2 size configs slots bitmap config from word₀ word = word
+
 abbrev Inv-loop : tie.InvT-loop
-Inv-loop size configs slots bitmap config s₀ s = Looked (newerOwner size (λ o. getD configs o 0) bitmap config) slots s
+Inv-loop size configs slots bitmap config from₀ from = (8 * (from / 8) ≡ from) × Come (newerOwner size (λ o. getD configs o 0) bitmap config) slots from
 
 abbrev μ-loop : tie.MeasureT-loop
-μ-loop size configs slots bitmap config s₀ s = length slots - s
+μ-loop size configs slots bitmap config from₀ from = length slots - from
 
-abbrev start : tie.At-loop Inv-loop μ-loop → tie.Start Inv-loop μ-loop
-start c = c .before .before .before .before
+loop-holds : tie.Need-loop-holds Inv-loop2 μ-loop2 Inv-loop μ-loop
+loop-holds c = (refl, set-out _ _)
 
-loop-holds : tie.Need-loop-holds Inv-loop μ-loop
-loop-holds c = looked-none _ _
+sub-word-at : tie.Need-sub-word-at Inv-loop2 μ-loop2 Inv-loop μ-loop
+sub-word-at c = search needs
 
-claimed-requires : tie.Need-claimed-requires Inv-loop μ-loop
-claimed-requires c κs = search needs
+word-at-requires : tie.Need-word-at-requires Inv-loop2 μ-loop2 Inv-loop μ-loop
+word-at-requires c κs = search needs
 
-add-s : tie.Need-add-s Inv-loop μ-loop
-add-s c = search needs
+loop2-holds : tie.Need-loop2-holds Inv-loop2 μ-loop2 Inv-loop μ-loop
+loop2-holds c = opens _ _ _ (λ s o e. rw e) (c .before .before .loop .inv .1) (rw (c .before .before .loop .inv .0) at (c .word-at .ensures))
 
-loop-less : tie.Need-loop-less Inv-loop μ-loop
-loop-less c = search needs
+cast-s : tie.Need-cast-s Inv-loop2 μ-loop2 Inv-loop μ-loop
+cast-s c = omega (arith, trailing-le 64 (c .before .loop2 .word))
 
-loop-again : tie.Need-loop-again Inv-loop μ-loop
-loop-again c = looked-more _ _ _ (c .before .before .before .loop .inv) (c .before .before .loop-test .taken) (rw (no (c .before .claimed .ensures) (c .if1 .taken)))
+add-s : tie.Need-add-s Inv-loop2 μ-loop2 Inv-loop μ-loop
+add-s c = omega (arith, in-table (c .before .loop2 .inv .unread) (c .loop2-test .taken))
 
-mul-owner : tie.Need-mul-owner Inv-loop μ-loop
-mul-owner c = search needs
+sub-word : tie.Need-sub-word Inv-loop2 μ-loop2 Inv-loop μ-loop
+sub-word c = search needs
 
-shared-slice-read-owner : tie.Need-shared-slice-read-owner Inv-loop μ-loop
-shared-slice-read-owner c = search needs
+mul-owner : tie.Need-mul-owner Inv-loop2 μ-loop2 Inv-loop μ-loop
+mul-owner c = omega (arith, in-table (c .before .loop2 .inv .unread) (c .loop2-test .taken))
 
-add-s-2 : tie.Need-add-s-2 Inv-loop μ-loop
-add-s-2 c = search needs
+shared-slice-read-owner : tie.Need-shared-slice-read-owner Inv-loop2 μ-loop2 Inv-loop μ-loop
+shared-slice-read-owner c = in-table (c .before .before .loop2 .inv .unread) (c .before .loop2-test .taken)
 
-loop-less-2 : tie.Need-loop-less-2 Inv-loop μ-loop
-loop-less-2 c = search needs
+loop2-less : tie.Need-loop2-less Inv-loop2 μ-loop2 Inv-loop μ-loop
+loop2-less c = rest-less (c .before .before .before .loop2 .word) (c .before .before .loop2-test .taken)
 
-loop-again-2 : tie.Need-loop-again-2 Inv-loop μ-loop
-loop-again-2 c = looked-more _ _ _ (c .before .before .before .before .before .loop .inv) (c .before .before .before .before .loop-test .taken) (rw (yes (c .before .before .before .claimed .ensures) (c .before .before .if1 .left), le-ltb (getD (start (c .before .before .before .before .before) .args .slots .now) (c .before .before .before .before .before .loop .s) 0) (start (c .before .before .before .before .before) .args .size) (omega (arith, c .if2 .taken))))
+loop2-again : tie.Need-loop2-again Inv-loop2 μ-loop2 Inv-loop μ-loop
+loop2-again c = let i = c .before .before .before .loop2 .inv in let f = c .before .before .loop2-test .taken in searches-on _ _ _ (λ s o e. rw e) i f (rw (is-claimed (i .unread) f, le-ltb _ _ (c .if1 .taken)))
 
-cast-known-at : tie.Need-cast-known-at Inv-loop μ-loop
-cast-known-at c = omega (arith, c .before .shared-slice-known4 .given (c .before .before .before .before .before .loop .s))
+cast-known-at : tie.Need-cast-known-at Inv-loop2 μ-loop2 Inv-loop μ-loop
+cast-known-at c = search needs
 
-known-at-requires : tie.Need-known-at-requires Inv-loop μ-loop
+known-at-requires : tie.Need-known-at-requires Inv-loop2 μ-loop2 Inv-loop μ-loop
 known-at-requires c κs = search needs
 
-add-s-3 : tie.Need-add-s-3 Inv-loop μ-loop
-add-s-3 c = search needs
+loop2-less-2 : tie.Need-loop2-less-2 Inv-loop2 μ-loop2 Inv-loop μ-loop
+loop2-less-2 c = rest-less (c .before .before .before .before .before .loop2 .word) (c .before .before .before .before .loop2-test .taken)
 
-loop-less-3 : tie.Need-loop-less-3 Inv-loop μ-loop
-loop-less-3 c = search needs
+loop2-again-2 : tie.Need-loop2-again-2 Inv-loop2 μ-loop2 Inv-loop μ-loop
+loop2-again-2 c = let i = c .before .before .before .before .before .loop2 .inv in let f = c .before .before .before .before .loop2-test .taken in searches-on _ _ _ (λ s o e. rw e) i f (rw (is-claimed (i .unread) f, lt-ltb _ _ (c .before .before .if1 .left), ← c .before .known-at .ensures, le-ltb _ _ (c .if2 .taken)))
 
-loop-again-3 : tie.Need-loop-again-3 Inv-loop μ-loop
-loop-again-3 c = looked-more _ _ _ (c .before .before .before .before .before .before .before .loop .inv) (c .before .before .before .before .before .before .loop-test .taken) (rw (yes (c .before .before .before .before .before .claimed .ensures) (c .before .before .before .before .if1 .left), lt-ltb _ _ (c .before .before .if2 .left), ← c .before .known-at .ensures, le-ltb (start (c .before .before .before .before .before .before .before) .args .config) (c .before .known-at .result) (omega (arith, c .if3 .taken))))
+returns : tie.Need-returns Inv-loop2 μ-loop2 Inv-loop μ-loop
+returns c = let i = c .before .before .before .before .before .loop2 .inv in let f = c .before .before .before .before .loop2-test .taken in here _ _ _ (λ s o e. rw e) i f (rw (is-claimed (i .unread) f, lt-ltb _ _ (c .before .before .if1 .left), ← c .before .known-at .ensures, lt-ltb _ _ (c .if2 .left)))
 
-returns : tie.Need-returns Inv-loop μ-loop
-returns c = looked-here _ _ _ (c .before .before .before .before .before .before .before .loop .inv) (c .before .before .before .before .before .before .loop-test .taken) (rw (yes (c .before .before .before .before .before .claimed .ensures) (c .before .before .before .before .if1 .left), lt-ltb _ _ (c .before .before .if2 .left), ← c .before .known-at .ensures, lt-ltb _ _ (c .if3 .left)))
+add-from : tie.Need-add-from Inv-loop2 μ-loop2 Inv-loop μ-loop
+add-from c = search needs
 
-returns-2 : tie.Need-returns-2 Inv-loop μ-loop
-returns-2 c = looked-all _ _ _ (c .before .loop .inv) (c .loop-test .left)
+loop-less : tie.Need-loop-less Inv-loop2 μ-loop2 Inv-loop μ-loop
+loop-less c = search needs
+
+loop-again : tie.Need-loop-again Inv-loop2 μ-loop2 Inv-loop μ-loop
+loop-again c = (omega (arith, c .before .before .before .before .loop .inv .0), closes _ _ _ (λ s o e. rw e) (c .before .loop2 .inv) (c .loop2-test .left))
+
+returns-2 : tie.Need-returns-2 Inv-loop2 μ-loop2 Inv-loop μ-loop
+returns-2 c = arrived _ _ (c .before .loop .inv .1) (c .loop-test .left)
 
 pub first-newer-spec : {M : Type 1} → statement M
 first-newer-spec =
     tie.close
     (tie.spec
+    Inv-loop2
+    μ-loop2
     Inv-loop
     μ-loop
     loop-holds
-    claimed-requires
+    sub-word-at
+    word-at-requires
+    loop2-holds
+    cast-s
     add-s
-    loop-less
-    loop-again
+    sub-word
     mul-owner
     shared-slice-read-owner
-    add-s-2
-    loop-less-2
-    loop-again-2
+    loop2-less
+    loop2-again
     cast-known-at
     known-at-requires
-    add-s-3
-    loop-less-3
-    loop-again-3
+    loop2-less-2
+    loop2-again-2
     returns
+    add-from
+    loop-less
+    loop-again
     returns-2)

@@ -1,7 +1,7 @@
--- `exports::ukweribaso_claim` meets its contract.
+-- `readings::ukweribaso_claim_plain` meets its contract.
 use borrow.Author.Needs.{needs}
-use Rattle.exports.proofs.ukweribaso_claim.Statement.{statement}
-use Rattle.exports.proofs.ukweribaso_claim.Tie as tie
+use Rattle.readings.proofs.ukweribaso_claim_plain.Statement.{statement}
+use Rattle.readings.proofs.ukweribaso_claim_plain.Tie as tie
 
 claim-requires : tie.Need-claim-requires
 claim-requires c κs = search needs
@@ -15,5 +15,5 @@ same-length c = search needs
 returns : tie.Need-returns
 returns c = rw (c .of-tally .ensures, ← c .before .before .before .claim .ensures)
 
-pub ukweribaso-claim-spec : {M : Type 1} → statement M
-ukweribaso-claim-spec = tie.close (tie.spec claim-requires of-tally-requires same-length returns)
+pub ukweribaso-claim-plain-spec : {M : Type 1} → statement M
+ukweribaso-claim-plain-spec = tie.close (tie.spec claim-requires of-tally-requires same-length returns)

@@ -1,8 +1,8 @@
--- `ownership::reach` meets its contract.
+-- `plain::reach` meets its contract.
 use borrow.Author.Tests.{le-leb, lt-leb}
 use borrow.Author.Needs.{needs}
-use Rattle.ownership.proofs.reach.Statement.{statement}
-use Rattle.ownership.proofs.reach.Tie as tie
+use Rattle.plain.proofs.reach.Statement.{statement}
+use Rattle.plain.proofs.reach.Tie as tie
 
 mul-result : tie.Need-mul-result
 mul-result c = search needs
