@@ -18,6 +18,18 @@ extern "C" {
         size: u16,
         suspected: u16,
     ) -> u64;
+    fn ukweribaso_decode(line: *const u8, length: usize, bitmap: *mut u8) -> u64;
+    fn ukweribaso_claim(
+        slots: *mut u16,
+        slots_length: usize,
+        bitmap: *const u8,
+        bitmap_length: usize,
+        configs: *const u64,
+        configs_length: usize,
+        size: u16,
+        sender: u16,
+        config: u64,
+    ) -> u64;
 }
 
 fn proved(roster: Roster, t: &mut Tables, line: &[u8], times: usize) -> u64 {
@@ -108,14 +120,38 @@ fn timed(roster: Roster, tables: &Tables, lines: &[Vec<u8>]) -> [f64; 3] {
     times(lines.len(), works).map(|time| time / frames as f64)
 }
 
+/// Where a heartbeat's time goes: the whole frame, its line decoded and its claims read, node 2's to a node of five whose table is
+/// as the first such frame left it.
+fn parts(name: &str, line: &[u8]) {
+    const TIMES: usize = 500;
+    let (roster, configs) = (Roster { size: 5, suspected: 0 }, [0u64, 0, 3, 0, 0]);
+    let (mut tables, mut bitmap, mut read) = (Tables::dealt(5, None), [0u8; 2048], [0u8; 2048]);
+    proved(roster, &mut tables, line, 1);
+    unsafe { ukweribaso_decode(line.as_ptr(), line.len(), bitmap.as_mut_ptr()) };
+    let mut slots = tables.slots.clone();
+    let works: [&mut dyn FnMut(usize) -> u64; 3] = [
+        &mut |_| proved(roster, &mut tables, line, TIMES),
+        &mut |_| (0..TIMES).map(|_| unsafe { ukweribaso_decode(line.as_ptr(), line.len(), read.as_mut_ptr()) }).fold(0, |a, b| a ^ b),
+        &mut |_| {
+            let claim = || unsafe { ukweribaso_claim(slots.as_mut_ptr(), 16384, bitmap.as_ptr(), 2048, configs.as_ptr(), 5, 5, 2, 3) };
+            std::iter::repeat_with(claim).take(TIMES).fold(0, |a, b| a ^ b)
+        },
+    ];
+    let [whole, decoded, claimed] = times(1, works).map(|time| time / TIMES as f64);
+    println!("{name:<33} {whole:>12.1} {decoded:>12.1} {:>8.2} {claimed:>12.1} {:>8.2}", decoded / whole, claimed / whole);
+}
+
 fn main() {
     let mut numbers = Numbers::new(20261115);
     agree(&mut numbers);
     let heartbeat = |bits: u8| vec![long([1, 2, 0, 0], [9, 3, 5], |_| bits)];
+    // a third of the slots, as one of three masters has them
+    let third = vec![long([1, 2, 0, 0], [9, 3, 5], |j| if (683..1366).contains(&j) { 255 } else { 0 })];
     // of these alone this node owns no slot
     let empty = "vote request, answered 11";
     let kinds = [
         ("heartbeat, empty bitmap", heartbeat(0)),
+        ("heartbeat, a third of the slots", third),
         ("heartbeat, full bitmap", heartbeat(255)),
         ("heartbeat, every other slot", heartbeat(0x55)),
         ("heartbeat, random bitmaps", (0..16).map(|_| long([1, 2, 0, 0], [9, 3, 5], |_| numbers.next() as u8)).collect()),
@@ -139,12 +175,12 @@ fn main() {
     let mut most = [(0.0, String::new()), (0.0, String::new())];
     for (who, roster) in rosters {
         println!("a frame to a node of {who}");
-        println!("{:<28} {:>12} {:>12} {:>8} {:>14} {:>8}", "", "proved, ns", "Rust, ns", "ratio", "unchecked, ns", "ratio");
+        println!("{:<33} {:>12} {:>12} {:>8} {:>14} {:>8}", "", "proved, ns", "Rust, ns", "ratio", "unchecked, ns", "ratio");
         for (name, lines) in &kinds {
             let tables = Tables::dealt(roster.size, (*name == empty).then_some(1));
             let [ours, checked, unchecked] = timed(roster, &tables, lines);
             let ratios = [ours / checked, ours / unchecked];
-            println!("{name:<28} {ours:>12.1} {checked:>12.1} {:>8.2} {unchecked:>14.1} {:>8.2}", ratios[0], ratios[1]);
+            println!("{name:<33} {ours:>12.1} {checked:>12.1} {:>8.2} {unchecked:>14.1} {:>8.2}", ratios[0], ratios[1]);
             for (most, ratio) in most.iter_mut().zip(ratios) {
                 if ratio > most.0 {
                     *most = (ratio, format!("{name}, {who}"));
@@ -152,6 +188,9 @@ fn main() {
             }
         }
     }
+    println!("a heartbeat to a node of 5 nodes, and its parts");
+    println!("{:<33} {:>12} {:>12} {:>8} {:>12} {:>8}", "", "proved, ns", "its line", "share", "its claims", "share");
+    kinds[..4].iter().for_each(|(name, lines)| parts(name, &lines[0]));
     println!("the greatest ratio to Rust (aim: 2): {:.2}, {}", most[0].0, most[0].1);
     println!("the greatest ratio to Rust, unchecked (aim: 4): {:.2}, {}", most[1].0, most[1].1);
 }

@@ -233,19 +233,18 @@ impl Node {
             return Answer::Heard { bound, rebound, stale };
         }
         self.known[sender].config = self.known[sender].config.max(config);
-        for (s, entry) in slots.iter_mut().enumerate() {
-            if bits[s / 8] >> (s % 8) & 1 == 0 {
-                continue;
-            }
-            let owner = *entry as usize;
-            if owner >= self.known.len() {
-                *entry = sender as u16;
-                bound += 1;
-            } else if owner != sender && self.known[owner].config < config {
-                *entry = sender as u16;
-                rebound += 1;
-            } else if owner != sender && self.known[owner].config > config && stale.is_none() {
-                stale = Some(s);
+        for (j, (entries, byte)) in slots.chunks_mut(8).zip(bits).enumerate().filter(|(_, (_, byte))| **byte != 0) {
+            for (k, entry) in entries.iter_mut().enumerate().filter(|(k, _)| byte >> k & 1 == 1) {
+                let owner = *entry as usize;
+                if owner >= self.known.len() {
+                    *entry = sender as u16;
+                    bound += 1;
+                } else if owner != sender && self.known[owner].config < config {
+                    *entry = sender as u16;
+                    rebound += 1;
+                } else if owner != sender && self.known[owner].config > config && stale.is_none() {
+                    stale = Some(j * 8 + k);
+                }
             }
         }
         let me = self.me as usize;
@@ -280,9 +279,9 @@ impl Node {
         if known.vote.is_some_and(|v| self.clock - v < 2 * self.timeout) {
             return 16;
         }
-        for (s, owner) in slots.iter().enumerate() {
-            let owner = *owner as usize;
-            if bits[s / 8] >> (s % 8) & 1 == 1 && owner < self.known.len() && self.known[owner].config > config {
+        let newer = |owner: u16| self.known.get(owner as usize).is_some_and(|known| known.config > config);
+        for (entries, byte) in slots.chunks(8).zip(bits).filter(|(_, byte)| **byte != 0) {
+            if entries.iter().enumerate().any(|(k, owner)| byte >> k & 1 == 1 && newer(*owner)) {
                 return 17;
             }
         }
