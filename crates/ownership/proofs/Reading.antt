@@ -15,7 +15,7 @@ use Rattle.bitmaps.proofs.Scan.{lowest, rest, all-read}
 use Rattle.bitmaps.proofs.Claims.{claims, Unread, all-unread, none-first, none-unread, unread-on, further, none-next}
 use Rattle.bitmaps.proofs.Claims as words
 use Rattle.ownership.specs.Claim.{Claimant, Claimed, fate, fateAt}
-use Rattle.ownership.specs.Own.{own, allOwn}
+use Rattle.ownership.specs.Own.{ownedBy, allOwn}
 use Rattle.ownership.specs.declared.Fate.the-variants.{Stays}
 use Rattle.ownership.proofs.Walk.{Stands, passes, unclaimed}
 
@@ -39,7 +39,7 @@ module _ {c : Claimant} {m : List ℕ} {g : Claimed} {n from : ℕ} {l : List �
   opens {w} i e = by (allOwn (c .size) (c .sender) l from) refl
     where
       tests : List Bool
-      tests = ltb (c .sender) (c .size) ∷ leb (from + 64) (length l) ∷ own (c .sender) l from ∷ []
+      tests = ltb (c .sender) (c .size) ∷ leb (from + 64) (length l) ∷ ownedBy (c .sender) l from ∷ []
 
       stays : allOwn (c .size) (c .sender) l from ≡ true → (s : ℕ) → from ≤ s → s < from + 64 → fateAt c m s (getD l s 0) ≡ Stays
       stays q s h t =

@@ -8,9 +8,9 @@ use Rattle.tables.specs.Below.{every}
 use Rattle.tables.specs.Checks.{allOf}
 
 -- the 64 slots from a place on are all a node's
-abbrev pub own : ℕ → List ℕ → ℕ → Bool
-own node slots from = every 64 (λ k. eqb (getD slots (from + k) 0) node)
+abbrev pub ownedBy : ℕ → List ℕ → ℕ → Bool
+ownedBy node slots from = every 64 (λ k. eqb (getD slots (from + k) 0) node)
 
 -- the sender is in the roster, the table has 64 slots from there on, and they are all his
 abbrev pub allOwn : ℕ → ℕ → List ℕ → ℕ → Bool
-allOwn size sender slots from = allOf (ltb sender size ∷ leb (from + 64) (length slots) ∷ own sender slots from ∷ [])
+allOwn size sender slots from = allOf (ltb sender size ∷ leb (from + 64) (length slots) ∷ ownedBy sender slots from ∷ [])

@@ -6,7 +6,7 @@ ghost use Prim.Native.Nat.{_+_, _-_, _*_, _/_, _≤_, _<_, min};
 ghost use lib.ListN.{length};
 ghost use Rattle.tables.specs.Sets.{claimed, wordOf};
 ghost use Rattle.ownership.specs.Claim.{claimant, fate, orElse, claim};
-ghost use Rattle.ownership.specs.Own.{own, allOwn};
+ghost use Rattle.ownership.specs.Own.{ownedBy, allOwn};
 use answers::Tally;
 use tables::Found;
 
@@ -54,9 +54,9 @@ fn lowest(found: Found, s: usize) -> Found
 
 // Whether the 64 slots from a place on are all a node's own. After the first there is no early end, so that the processor compares
 // several entries at once.
-fn own_from(slots: &[u16], from: usize, node: u16) -> bool
+fn owned_by(slots: &[u16], from: usize, node: u16) -> bool
     requires { ⌜ from + 64 ≤ length (now slots) ⌝ }
-    ensures { λ r. ⌜ r ≡ own node (now (slots .entry)) from ⌝ }
+    ensures { λ r. ⌜ r ≡ ownedBy node (now (slots .entry)) from ⌝ }
 {
     if slots[from] != node {
         return false;
@@ -86,7 +86,7 @@ fn pending(slots: &[u16], bitmap: &[u8], from: usize, size: u16, sender: u16) ->
     if left < 64 {
         return word;
     }
-    if own_from(slots, from, sender) {} else {
+    if owned_by(slots, from, sender) {} else {
         return word;
     }
     0

@@ -40,18 +40,18 @@ returns-3 c =
     let a = start (c .before .before .before) .args in
     rw (lt-ltb _ _ (c .before .if2 .left), lt-leb (a .from + 64) (length (a .slots .now)) (omega (arith, c .if3 .taken))) (word (c .before .before .before))
 
-own-from-requires : tie.Need-own-from-requires
-own-from-requires c κs = omega (arith, c .if3 .left)
+owned-by-requires : tie.Need-owned-by-requires
+owned-by-requires c κs = omega (arith, c .if3 .left)
 
 returns-4 : tie.Need-returns-4
 returns-4 c =
     let a = start (c .before .before .before .before .before) .args in
-    rw (lt-ltb _ _ (c .before .before .before .if2 .left), le-leb (a .from + 64) (length (a .slots .now)) (omega (arith, c .before .before .if3 .left)), ← c .before .own-from .ensures, c .if4 .left) (word (c .before .before .before .before .before))
+    rw (lt-ltb _ _ (c .before .before .before .if2 .left), le-leb (a .from + 64) (length (a .slots .now)) (omega (arith, c .before .before .if3 .left)), ← c .before .owned-by .ensures, c .if4 .left) (word (c .before .before .before .before .before))
 
 returns-5 : tie.Need-returns-5
 returns-5 c =
     let a = start (c .before .before .before .before .before) .args in
-    rw (lt-ltb _ _ (c .before .before .before .if2 .left), le-leb (a .from + 64) (length (a .slots .now)) (omega (arith, c .before .before .if3 .left)), ← c .before .own-from .ensures, c .if4 .taken)
+    rw (lt-ltb _ _ (c .before .before .before .if2 .left), le-leb (a .from + 64) (length (a .slots .now)) (omega (arith, c .before .before .if3 .left)), ← c .before .owned-by .ensures, c .if4 .taken)
 
 pub pending-spec : {M : Type 1} → statement M
 pending-spec =
@@ -62,6 +62,6 @@ pending-spec =
     returns
     returns-2
     returns-3
-    own-from-requires
+    owned-by-requires
     returns-4
     returns-5)

@@ -1,4 +1,4 @@
--- `ownership::own_from` meets its contract: the entries below k were looked at.
+-- `ownership::owned_by` meets its contract: the entries below k were looked at.
 use mathlib.Core.Path.{_≡_, refl}
 use mathlib.Core.Bool.{Bool, true, false, cond, _&&_}
 use Prim.Native.Nat.{_+_, _-_, _≤_}
@@ -10,8 +10,8 @@ use borrow.Author.Tests.{ne-eqb}
 use Rattle.tables.specs.Below.{every}
 use Rattle.tables.proofs.Below.{every-fails}
 use borrow.Author.Needs.{needs}
-use Rattle.ownership.proofs.own_from.Statement.{statement}
-use Rattle.ownership.proofs.own_from.Tie as tie
+use Rattle.ownership.proofs.owned_by.Statement.{statement}
+use Rattle.ownership.proofs.owned_by.Tie as tie
 
 abbrev Inv-loop : tie.InvT-loop
 Inv-loop slots from node all₀ k₀ all k = (k ≤ 64) × (all ≡ every k (λ j. eqb (getD slots (from + j) 0) node))
@@ -63,8 +63,8 @@ loop-again c = let l = c .before .before .loop in (omega arith, rw (add-one (l .
 returns-2 : tie.Need-returns-2 Inv-loop μ-loop
 returns-2 c = let l = c .before .loop in let e : l .k ≡ 64 = omega (arith, l .inv .0, c .loop-test .left) in rw e at (l .inv .1)
 
-pub own-from-spec : {M : Type 1} → statement M
-own-from-spec =
+pub owned-by-spec : {M : Type 1} → statement M
+owned-by-spec =
     tie.close
     (tie.spec
     Inv-loop
