@@ -121,10 +121,13 @@ fn by_bytes(c: &Claimant, slots: &mut [u16], bitmap: &[u8]) -> u64 {
     told.digest()
 }
 
+/// Up to eight bytes, least first.
+#[inline(always)]
 fn word(bytes: &[u8]) -> u64 {
-    let mut eight = [0; 8];
-    eight[..bytes.len()].copy_from_slice(bytes);
-    u64::from_le_bytes(eight)
+    match bytes.try_into() {
+        Ok(eight) => u64::from_le_bytes(eight),
+        Err(_) => bytes.iter().rev().fold(0, |word, byte| word << 8 | *byte as u64),
+    }
 }
 
 /// Takes the bits of 64 slots from the lowest on.

@@ -100,8 +100,8 @@ fn stored<const CHECKED: bool>() {
 }
 
 /// Best times of one frame, in nanoseconds: the proved step, Rust, and Rust without the checks 1 and 7. One line is handed to
-/// a node again and again, for about two milliseconds a round. Of several each is handed to a fresh node, whose making is
-/// timed too: no processor learns to foresee them all.
+/// a node again and again, for about two milliseconds a round. Of several each is handed to a fresh node with the tables as they
+/// were, whose making and copying is timed too: no processor learns to foresee them all.
 fn timed(roster: Roster, tables: &Tables, lines: &[Vec<u8>]) -> [f64; 3] {
     let frames = match lines {
         [line] => {
@@ -112,30 +112,89 @@ fn timed(roster: Roster, tables: &Tables, lines: &[Vec<u8>]) -> [f64; 3] {
         _ => 1,
     };
     let (mut t, mut t2, mut t3) = (tables.clone(), tables.clone(), tables.clone());
+    let again = |t: &mut Tables| {
+        if lines.len() > 1 {
+            t.slots.copy_from_slice(&tables.slots);
+        }
+    };
     let works: [&mut dyn FnMut(usize) -> u64; 3] = [
-        &mut |i| proved(roster, &mut t, &lines[i], frames),
-        &mut |i| plain::<true>(roster, &mut t2, &lines[i], frames),
-        &mut |i| plain::<false>(roster, &mut t3, &lines[i], frames),
+        &mut |i| {
+            again(&mut t);
+            proved(roster, &mut t, &lines[i], frames)
+        },
+        &mut |i| {
+            again(&mut t2);
+            plain::<true>(roster, &mut t2, &lines[i], frames)
+        },
+        &mut |i| {
+            again(&mut t3);
+            plain::<false>(roster, &mut t3, &lines[i], frames)
+        },
     ];
     times(lines.len(), works).map(|time| time / frames as f64)
 }
 
-/// Where a heartbeat's time goes: the whole frame, its line decoded and its claims read, node 2's to a node of five whose table is
-/// as the first such frame left it.
+/// The node whose heartbeats are timed, and its configEpoch.
+const SENDER: u8 = 2;
+const CONFIG: u64 = 3;
+
+fn heartbeat(bits: impl FnMut(usize) -> u8) -> Vec<u8> {
+    long([1, SENDER, 0, 0], [9, CONFIG, 5], bits)
+}
+
+/// Heartbeats that change nothing after the first. One claims a third of the slots, as one of three masters has them.
+fn heartbeats() -> [(&'static str, Vec<u8>); 4] {
+    [
+        ("heartbeat, empty bitmap", heartbeat(|_| 0)),
+        ("heartbeat, a third of the slots", heartbeat(|j| if (683..1366).contains(&j) { 255 } else { 0 })),
+        ("heartbeat, full bitmap", heartbeat(|_| 255)),
+        ("heartbeat, every other slot", heartbeat(|_| 0x55)),
+    ]
+}
+
+/// Of these alone this node owns no slot.
+const EMPTY: &str = "vote request, answered 11";
+
+/// What is timed, by its name: a line, or several.
+fn kinds(numbers: &mut Numbers) -> Vec<(&'static str, Vec<Vec<u8>>)> {
+    let random = (0..16).map(|_| heartbeat(|_| numbers.next() as u8)).collect();
+    let request = |bits: u8| long([4, 3, 0, 0], [9, 3, 5], |_| bits);
+    let one = [
+        ("heartbeat refused with 3", long([1, 99, 0, 0], [9, 3, 5], |_| 0)),
+        (EMPTY, request(255)),
+        ("vote request, answered 15", request(255)),
+        ("vote request, answered 18", request(0)),
+        ("report", short([2, 2, 3, 1], &[5])),
+        ("fail", short([3, 2, 0, 0], &[5])),
+        ("ack, answered 31", short([5, 2, 3, 0], &[9, 5])),
+        ("probe, ping", short([6, 2, 0, 0], &[5])),
+        ("probe, pong", short([6, 2, 1, 0], &[5])),
+        ("tick", short([7, 0, 0, 0], &[5])),
+        ("not a frame, 24 digits", short([9, 0, 0, 0], &[5])),
+    ];
+    let alone = |(name, line)| (name, vec![line]);
+    heartbeats().map(alone).into_iter().chain([("heartbeat, random bitmaps", random)]).chain(one.map(alone)).collect()
+}
+
+/// Where a heartbeat's time goes: the whole frame, its line decoded and its claims read, to a node of five whose table is as the
+/// first such frame left it.
 fn parts(name: &str, line: &[u8]) {
     const TIMES: usize = 500;
-    let (roster, configs) = (Roster { size: 5, suspected: 0 }, [0u64, 0, 3, 0, 0]);
-    let (mut tables, mut bitmap, mut read) = (Tables::dealt(5, None), [0u8; 2048], [0u8; 2048]);
+    const SIZE: u16 = 5;
+    let roster = Roster { size: SIZE, suspected: 0 };
+    let mut configs = [0; SIZE as usize];
+    configs[SENDER as usize] = CONFIG;
+    let (mut tables, mut bitmap, mut read) = (Tables::dealt(SIZE, None), [0u8; 2048], [0u8; 2048]);
     proved(roster, &mut tables, line, 1);
     unsafe { ukweribaso_decode(line.as_ptr(), line.len(), bitmap.as_mut_ptr()) };
     let mut slots = tables.slots.clone();
+    let mut decode = || unsafe { ukweribaso_decode(line.as_ptr(), line.len(), read.as_mut_ptr()) };
+    let (b, k) = (bitmap.as_ptr(), configs.as_ptr());
+    let mut claim = || unsafe { ukweribaso_claim(slots.as_mut_ptr(), 16384, b, 2048, k, configs.len(), SIZE, SENDER as u16, CONFIG) };
     let works: [&mut dyn FnMut(usize) -> u64; 3] = [
         &mut |_| proved(roster, &mut tables, line, TIMES),
-        &mut |_| (0..TIMES).map(|_| unsafe { ukweribaso_decode(line.as_ptr(), line.len(), read.as_mut_ptr()) }).fold(0, |a, b| a ^ b),
-        &mut |_| {
-            let claim = || unsafe { ukweribaso_claim(slots.as_mut_ptr(), 16384, bitmap.as_ptr(), 2048, configs.as_ptr(), 5, 5, 2, 3) };
-            std::iter::repeat_with(claim).take(TIMES).fold(0, |a, b| a ^ b)
-        },
+        &mut |_| (0..TIMES).fold(0, |told, _| told ^ decode()),
+        &mut |_| (0..TIMES).fold(0, |told, _| told ^ claim()),
     ];
     let [whole, decoded, claimed] = times(1, works).map(|time| time / TIMES as f64);
     println!("{name:<33} {whole:>12.1} {decoded:>12.1} {:>8.2} {claimed:>12.1} {:>8.2}", decoded / whole, claimed / whole);
@@ -144,29 +203,7 @@ fn parts(name: &str, line: &[u8]) {
 fn main() {
     let mut numbers = Numbers::new(20261115);
     agree(&mut numbers);
-    let heartbeat = |bits: u8| vec![long([1, 2, 0, 0], [9, 3, 5], |_| bits)];
-    // a third of the slots, as one of three masters has them
-    let third = vec![long([1, 2, 0, 0], [9, 3, 5], |j| if (683..1366).contains(&j) { 255 } else { 0 })];
-    // of these alone this node owns no slot
-    let empty = "vote request, answered 11";
-    let kinds = [
-        ("heartbeat, empty bitmap", heartbeat(0)),
-        ("heartbeat, a third of the slots", third),
-        ("heartbeat, full bitmap", heartbeat(255)),
-        ("heartbeat, every other slot", heartbeat(0x55)),
-        ("heartbeat, random bitmaps", (0..16).map(|_| long([1, 2, 0, 0], [9, 3, 5], |_| numbers.next() as u8)).collect()),
-        ("heartbeat refused with 3", vec![long([1, 99, 0, 0], [9, 3, 5], |_| 0)]),
-        (empty, vec![long([4, 3, 0, 0], [9, 3, 5], |_| 255)]),
-        ("vote request, answered 15", vec![long([4, 3, 0, 0], [9, 3, 5], |_| 255)]),
-        ("vote request, answered 18", vec![long([4, 3, 0, 0], [9, 3, 5], |_| 0)]),
-        ("report", vec![short([2, 2, 3, 1], &[5])]),
-        ("fail", vec![short([3, 2, 0, 0], &[5])]),
-        ("ack, answered 31", vec![short([5, 2, 3, 0], &[9, 5])]),
-        ("probe, ping", vec![short([6, 2, 0, 0], &[5])]),
-        ("probe, pong", vec![short([6, 2, 1, 0], &[5])]),
-        ("tick", vec![short([7, 0, 0, 0], &[5])]),
-        ("not a frame, 24 digits", vec![short([9, 0, 0, 0], &[5])]),
-    ];
+    let kinds = kinds(&mut numbers);
     let rosters = [
         ("5 nodes", Roster { size: 5, suspected: 0 }),
         ("64 nodes", Roster { size: 64, suspected: 0 }),
@@ -177,7 +214,7 @@ fn main() {
         println!("a frame to a node of {who}");
         println!("{:<33} {:>12} {:>12} {:>8} {:>14} {:>8}", "", "proved, ns", "Rust, ns", "ratio", "unchecked, ns", "ratio");
         for (name, lines) in &kinds {
-            let tables = Tables::dealt(roster.size, (*name == empty).then_some(1));
+            let tables = Tables::dealt(roster.size, (*name == EMPTY).then_some(1));
             let [ours, checked, unchecked] = timed(roster, &tables, lines);
             let ratios = [ours / checked, ours / unchecked];
             println!("{name:<33} {ours:>12.1} {checked:>12.1} {:>8.2} {unchecked:>14.1} {:>8.2}", ratios[0], ratios[1]);
@@ -190,7 +227,7 @@ fn main() {
     }
     println!("a heartbeat to a node of 5 nodes, and its parts");
     println!("{:<33} {:>12} {:>12} {:>8} {:>12} {:>8}", "", "proved, ns", "its line", "share", "its claims", "share");
-    kinds[..4].iter().for_each(|(name, lines)| parts(name, &lines[0]));
+    heartbeats().iter().for_each(|(name, line)| parts(name, line));
     println!("the greatest ratio to Rust (aim: 2): {:.2}, {}", most[0].0, most[0].1);
     println!("the greatest ratio to Rust, unchecked (aim: 4): {:.2}, {}", most[1].0, most[1].1);
 }

@@ -1,77 +1,23 @@
--- A word made from a test, in parts; and the claims on the slots of a bitmap's bytes: a byte's are the byte itself.
-use mathlib.Core.Path.{_≡_, refl, sym, ap, _∙_}
-use mathlib.Core.Bool.{Bool, true, false, cond}
+-- The claims on the slots of a bitmap's bytes, as words: a byte's are the byte itself.
+use mathlib.Core.Path.{_≡_, _∙_}
 use mathlib.Core.List.{List}
-use Prim.Native.Nat.{ℕ, zero, suc, _+_, _-_, _*_, _/_, _%_, _^_, _≤_, _<_}
-use native.Mathlib.Nat.{mod-one, mod-lt, mod-eq-of-lt, one-mul, add-mul, mul-assoc, add-assoc}
-use native.Mathlib.Numerals.{one-add}
+use Prim.Native.Nat.{ℕ, suc, _+_, _-_, _*_, _/_, _%_, _^_, _≤_, _<_}
+use native.Mathlib.Nat.{mod-eq-of-lt, one-mul}
 use native.Mathlib.Omega.{arith}
-use lib.Bits.{bitOr, or-shifted-r}
-use lib.Dec.{eqb}
-use lib.ListN.{length, getD, List·getD-eq-default}
-use lib.Pow.{pow-add, mod-pow-add, low, shl-exact}
+use lib.ListN.{length, getD}
+use lib.Pow.{shl-exact}
 use mir.Syntax.{w8}
 use mir.Val.{Fits}
 use Rattle.tables.specs.Sets.{bit, claimed, wordOf}
-use Rattle.tables.proofs.Sets.{bit-zero, word-fits}
-use Rattle.tables.proofs.Words.{word-rest}
-
--- ---- a word made from a test, as a sum
-
--- 1 for a test that passes, and 0
-one : Bool → ℕ
-one true = 1
-one false = 0
-
-word-step : (p : ℕ → Bool) (from n : ℕ) → wordOf p from (suc n) ≡ one (p (from + n)) * 2 ^ n + wordOf p from n
-unfolding wordOf one
-word-step p from n = by (p (from + n))
-  where
-    by : (t : Bool) → cond t (bitOr (wordOf p from n) (2 ^ n)) (wordOf p from n) ≡ one t * 2 ^ n + wordOf p from n
-    by true = ap (bitOr (wordOf p from n)) (sym (one-mul (2 ^ n))) ∙ or-shifted-r 1 n (wordOf p from n) (word-fits p from n)
-    by false = omega arith
-
--- two words agree where their tests do
-pub word-like : (p q : ℕ → Bool) (f g n : ℕ) → ((k : ℕ) → k < n → p (f + k) ≡ q (g + k)) → wordOf p f n ≡ wordOf q g n
-unfolding wordOf
-word-like p q f g zero h = refl
-word-like p q f g (suc n) h =
-    rw (word-step p f n, word-step q g n, h n (omega arith), word-like p q f g n (λ k l. h k (omega arith)))
-
--- a word of more numbers: the word of the first of them is its low bits
-pub word-cat : (p : ℕ → Bool) (from n j : ℕ) → wordOf p from (n + j) ≡ wordOf p (from + n) j * 2 ^ n + wordOf p from n
-unfolding wordOf
-word-cat p from n zero = let e : n + 0 ≡ n = omega arith in rw e (omega arith)
-word-cat p from n (suc j) =
-    let e : n + suc j ≡ suc (n + j) = omega arith in
-    let a : from + (n + j) ≡ from + n + j = omega arith in
-    let c : n + j ≡ j + n = omega arith in
-    rw (e, word-step p from (n + j), word-step p (from + n) j, a, word-cat p from n j, c, pow-add 2 j n, add-mul, mul-assoc) (sym (add-assoc _ _ _))
-
--- the first n numbers of 64
-pub word-low : (p : ℕ → Bool) (from n : ℕ) → n ≤ 64 → wordOf p from 64 % 2 ^ n ≡ wordOf p from n
-word-low p from n h =
-    let e : 64 ≡ n + (64 - n) = omega arith in
-    ap (λ (x : ℕ). wordOf p from x % 2 ^ n) e ∙ rw (word-cat p from n (64 - n)) (low (wordOf p (from + n) (64 - n)) n (word-fits p from n))
+use Rattle.tables.proofs.Bitmap.{past-the-end}
+use Rattle.tables.proofs.Sets.{word-fits}
+use Rattle.tables.proofs.Words.{word-rest, word-like, word-cat, word-bits}
 
 -- the mask of n slots, as the machine shifts it
 pub mask-is : (n : ℕ) → n < 64 → 1 * 2 ^ n % 2 ^ 64 ≡ 2 ^ n
 mask-is n h = shl-exact 1 n 64 (omega arith) (omega arith) ∙ one-mul (2 ^ n)
 
 -- ---- a byte is the word of its own bits
-
-one-bit : (r : ℕ) → r < 2 → one (eqb r 1) ≡ r
-unfolding one
-one-bit zero h = refl
-one-bit (suc zero) h = refl
-one-bit (suc (suc r)) h = absurd (omega arith)
-
-word-bits : (b n : ℕ) → wordOf (bit b) 0 n ≡ b % 2 ^ n
-unfolding wordOf
-word-bits b zero = sym (mod-one b)
-word-bits b (suc n) =
-    let z : 0 + n ≡ n = omega arith in
-    word-step (bit b) 0 n ∙ rw (z, one-bit (b / 2 ^ n % 2) (mod-lt (b / 2 ^ n) (omega arith)), word-bits b n, ← one-add n) (sym (mod-pow-add b 1 n))
 
 module _ (bitmap : List ℕ) (k : ℕ) where
   word-byte : getD bitmap k 0 < 256 → wordOf (claimed bitmap) (8 * k) 8 ≡ getD bitmap k 0
@@ -84,24 +30,21 @@ module _ (bitmap : List ℕ) (k : ℕ) where
           rw (d, m)
 
   -- the byte at place k, in front of what follows it
-  pub word-front : (n : ℕ) → getD bitmap k 0 < 256 → wordOf (claimed bitmap) (8 * k) (8 + n) ≡ wordOf (claimed bitmap) (8 * (k + 1)) n * 256 + getD bitmap k 0
+  word-front : (n : ℕ) → getD bitmap k 0 < 256 → wordOf (claimed bitmap) (8 * k) (8 + n) ≡ wordOf (claimed bitmap) (8 * (k + 1)) n * 256 + getD bitmap k 0
   word-front n h =
       let e : 8 * k + 8 ≡ 8 * (k + 1) = omega arith in
       word-cat (claimed bitmap) (8 * k) 8 n ∙ rw (e, word-byte h)
 
 -- ---- from the bitmap's end on nothing is claimed
 
-unclaimed : (bitmap : List ℕ) (s : ℕ) → length bitmap ≤ s / 8 → claimed bitmap s ≡ false
-unclaimed bitmap s h = rw (List·getD-eq-default bitmap 0 h) (bit-zero (s % 8))
-
 module _ (bitmap : List ℕ) (k : ℕ) where
   pub word-ended : (n : ℕ) → length bitmap ≤ k → wordOf (claimed bitmap) (8 * k) n ≡ 0
   unfolding wordOf
-  word-ended n h = let z : 0 + n ≡ n = omega arith in rw (← z) (word-rest (claimed bitmap) (8 * k) 0 n (λ s l. unclaimed bitmap (8 * k + s) (omega arith)))
+  word-ended n h = let z : 0 + n ≡ n = omega arith in rw (← z) (word-rest (claimed bitmap) (8 * k) 0 n (λ s l. past-the-end bitmap (8 * k + s) (omega arith)))
 
   -- where at most seven bytes are left, their slots fit 56 bits, so that one byte more has room in front of them
-  pub word-short : length bitmap ≤ k + 7 → wordOf (claimed bitmap) (8 * k) 64 ≡ wordOf (claimed bitmap) (8 * k) 56
-  word-short h = word-rest (claimed bitmap) (8 * k) 56 8 (λ s l. unclaimed bitmap (8 * k + s) (omega arith))
+  word-short : length bitmap ≤ k + 7 → wordOf (claimed bitmap) (8 * k) 64 ≡ wordOf (claimed bitmap) (8 * k) 56
+  word-short h = word-rest (claimed bitmap) (8 * k) 56 8 (λ s l. past-the-end bitmap (8 * k + s) (omega arith))
 
   pub short-fits : length bitmap ≤ k + 7 → wordOf (claimed bitmap) (8 * k) 64 < 2 ^ 56
   short-fits h = rw (word-short h) (word-fits (claimed bitmap) (8 * k) 56)

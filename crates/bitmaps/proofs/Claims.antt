@@ -12,7 +12,7 @@ use borrow.Author.Tests.{lt-ltb, ltb-true}
 use Rattle.tables.specs.Sets.{bit, claimed, wordOf}
 use Rattle.tables.proofs.Checks.{never}
 use Rattle.tables.proofs.Sets.{bit-word, word-fits}
-use Rattle.bitmaps.proofs.Scan.{lowest, rest, Left, left-whole, left-nothing, none-before, is-set, left-on, moves-up, none-between}
+use Rattle.bitmaps.proofs.Scan.{lowest, rest, Left, left-whole, left-nothing, none-before, all-read, is-set, left-on, moves-up, none-between}
 
 -- of a table of n slots
 abbrev pub claims : List ℕ → ℕ → ℕ → ℕ
@@ -37,19 +37,7 @@ no-claim m n from s h g t e =
 pub record Unread (m : List ℕ) (n from w : ℕ) : Type 0 where
   pub bits : Left (claims m n from) w
 
--- at the start all are left, and none stands before the first
-module _ (m : List ℕ) (n from w : ℕ) (e : w ≡ claims m n from) where
-  pub all-unread : Unread m n from w
-  all-unread = record { bits = rw e (left-whole (claims m n from) (lt-of-lt-of-le (word-fits (claimed m) from (min (n - from) 64)) (pow-mono {j = 64} (omega arith)))) }
-
-  pub none-first : (s : ℕ) → from ≤ s → s < from + lowest w → s < n → claimed m s ≡ false
-  none-first s h g t = no-claim m n from s h (omega (arith, trailing-le 64 w)) t (none-before (claims m n from) (s - from) (omega (arith, ap lowest e)))
-
--- where none need be read
-pub none-unread : (m : List ℕ) (n from : ℕ) → Unread m n from 0
-none-unread m n from = record { bits = left-nothing (claims m n from) }
-
--- a turn: the lowest bit is the claim of a slot of the table, and none stands between it and the next
+-- a turn: the lowest bit is the claim of a slot of the table
 module _ {m : List ℕ} {n from w : ℕ} (u : Unread m n from w) (f : w ≡ 0 → ⊥) where
   pub in-table : from + lowest w < n
   in-table = a-claim m n from (lowest w) (is-set (u .bits) f) .0
@@ -57,11 +45,35 @@ module _ {m : List ℕ} {n from w : ℕ} (u : Unread m n from w) (f : w ≡ 0 �
   pub is-claimed : claimed m (from + lowest w) ≡ true
   is-claimed = a-claim m n from (lowest w) (is-set (u .bits) f) .1
 
-  pub unread-on : Unread m n from (rest w)
-  unread-on = record { bits = left-on (u .bits) f }
+-- ---- a walk over the table that has come to a slot (P) goes on over slots that are not claimed
 
-  pub further : lowest w < lowest (rest w)
-  further = moves-up (u .bits) f
+pub record Carries (P : ℕ → Type 0) (m : List ℕ) (n : ℕ) : Type 0 where
+  pub over : {s s' : ℕ} → s ≤ s' → ((k : ℕ) → s ≤ k → k < s' → k < n → claimed m k ≡ false) → P s → P s'
 
-  pub none-next : (s : ℕ) → from + lowest w < s → s < from + lowest (rest w) → s < n → claimed m s ≡ false
-  none-next s h g t = no-claim m n from s (omega arith) (omega (arith, trailing-le 64 (rest w))) t (none-between (u .bits) f (s - from) (omega arith) (omega arith))
+-- at what is left of a word, w, it has come to the slot of the lowest bit
+pub record Reads (P : ℕ → Type 0) (m : List ℕ) (n from w : ℕ) : Type 0 where
+  pub unread : Unread m n from w
+  pub at : P (from + lowest w)
+
+module _ {P : ℕ → Type 0} {m : List ℕ} {n from w : ℕ} where
+  -- it starts at the first bit, since no slot before it is claimed
+  pub opens : Carries P m n → w ≡ claims m n from → P from → Reads P m n from w
+  opens c e p = record {
+    unread = record { bits = rw e (left-whole (claims m n from) (lt-of-lt-of-le (word-fits (claimed m) from (min (n - from) 64)) (pow-mono {j = 64} (omega arith)))) };
+    at = c .over (omega arith) (λ s h g t. no-claim m n from s h (omega (arith, trailing-le 64 w)) t (none-before (claims m n from) (s - from) (omega (arith, ap lowest e)))) p;
+  }
+
+  -- where none of the 64 need be looked at
+  pub opens-none : w ≡ 0 → P (from + 64) → Reads P m n from w
+  opens-none e p = record { unread = record { bits = rw e (left-nothing (claims m n from)) }; at = rw (all-read w e) p }
+
+  -- nothing is left: all 64 were read
+  pub closes : Reads P m n from w → w ≡ 0 → P (from + 64)
+  closes r e = rw (all-read w e) at (r .at)
+
+  -- after a turn the next bit is read, since no slot between the two is claimed
+  pub reads-on : {Q : ℕ → Type 0} → Carries Q m n → Reads P m n from w → (w ≡ 0 → ⊥) → Q (from + lowest w + 1) → Reads Q m n from (rest w)
+  reads-on c r f q = record {
+    unread = record { bits = left-on (r .unread .bits) f };
+    at = c .over (omega (arith, moves-up (r .unread .bits) f)) (λ s h g t. no-claim m n from s (omega arith) (omega (arith, trailing-le 64 (rest w))) t (none-between (r .unread .bits) f (s - from) (omega arith) (omega arith))) q;
+  }

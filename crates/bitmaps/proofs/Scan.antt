@@ -1,7 +1,7 @@
 -- A word read from its lowest bit on: `trailing_zeros` says where that is, and `word & (word - 1)` leaves the bits above it.
 use mathlib.Core.Path.{_≡_, refl, sym, ap, _∙_}
 use mathlib.Core.Bool.{Bool, true, false, cond}
-use Prim.Native.Nat.{ℕ, zero, suc, _+_, _-_, _/_, _%_, _^_, _≤_, _<_}
+use Prim.Native.Nat.{ℕ, zero, suc, _-_, _/_, _%_, _^_, _≤_, _<_}
 use native.Mathlib.Nat.{lt-of-le-of-lt, pow-suc}
 use native.Mathlib.Decide.{decLt}
 use native.Mathlib.Omega.{arith}
@@ -11,13 +11,11 @@ use lib.Count.{trailingZeros, under, trailing-of-zero, trailing-le}
 use borrow.Author.Tests.{eq-eqb, ne-eqb}
 use Rattle.tables.specs.Sets.{bit}
 use Rattle.tables.proofs.Checks.{never}
-use Rattle.tables.proofs.Groups.{bit-half}
+use Rattle.tables.proofs.Groups.{bit-suc}
+use Rattle.tables.proofs.Sets.{cond-false}
 use Rattle.tables.proofs.Words.{bits-both}
 
--- ---- the bits of a number: the lowest, and those above it
-
-pub bit-suc : (w k : ℕ) → bit w (suc k) ≡ bit (w / 2) k
-bit-suc w k = let e : suc k ≡ 1 + k = omega arith in ap (bit w) e ∙ sym (bit-half w k)
+-- ---- the lowest bit of a number
 
 even : (w : ℕ) → 0 ≡ w % 2 → bit w 0 ≡ false
 even w e = ne-eqb (w / 1 % 2) 1 (λ q. omega arith)
@@ -90,10 +88,6 @@ both-same : (b : Bool) → cond b b false ≡ b
 both-same true = refl
 both-same false = refl
 
-neither : (b : Bool) → cond b false false ≡ false
-neither true = refl
-neither false = refl
-
 abbrev pub lowest : ℕ → ℕ
 lowest w = trailingZeros 64 w
 
@@ -109,7 +103,7 @@ module _ (w : ℕ) (h : lowest w < 64) where
     where
       by : Dec (k < lowest w) → cond (bit w k) (bit (w - 1) k) false ≡ false
       by (yes l) = rw (below 64 w k l)
-      by (no f) = let e : k ≡ lowest w = omega arith in rw (e, before-there 64 w h) (neither (bit w (lowest w)))
+      by (no f) = let e : k ≡ lowest w = omega arith in rw (e, before-there 64 w h) (cond-false (bit w (lowest w)))
 
   -- its lowest bit is further up
   higher : lowest w < lowest (rest w)
@@ -147,7 +141,7 @@ all-read w e = ap lowest e ∙ trailing-of-zero 64
 
 module _ {whole w : ℕ} (l : Left whole w) (f : w ≡ 0 → ⊥) where
   -- a turn: the lowest bit is one of the whole word's
-  pub in-word : lowest w < 64
+  in-word : lowest w < 64
   in-word = some 64 w (l .fits) f
 
   pub is-set : bit whole (lowest w) ≡ true

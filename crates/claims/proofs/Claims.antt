@@ -14,9 +14,8 @@ use lib.Seq.{drop-cons}
 use borrow.Author.Tests.{eq-eqb, ne-eqb, eqb-true, eqb-false}
 use Rattle.tables.specs.Sets.{bit, claimed}
 use Rattle.tables.proofs.Checks.{never}
-use Rattle.tables.proofs.Groups.{first-group, later-group}
+use Rattle.tables.proofs.Groups.{first-group, later-group, bit-suc}
 use Rattle.tables.proofs.Sets.{bit-zero}
-use Rattle.bitmaps.proofs.Scan.{bit-suc}
 use Rattle.claims.specs.Claims.{empty, EmptyExactly}
 
 -- ---- a loop over the bytes that has come to place k

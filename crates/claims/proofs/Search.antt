@@ -1,4 +1,4 @@
--- The search for a newer owner, 64 slots at a time: at a word's lowest bit it has come to that bit's slot.
+-- The search for a newer owner, 64 slots at a time: it goes on over slots that are not claimed.
 use mathlib.Core.Path.{_≡_, refl, sym, _∙_}
 use mathlib.Core.Bool.{Bool, true, false}
 use mathlib.Core.List.{List}
@@ -10,8 +10,7 @@ use Rattle.tables.specs.Lists.{firstFrom}
 use Rattle.tables.specs.Sets.{claimed}
 use Rattle.tables.specs.declared.Found.the-variants.{Nothing, At}
 use Rattle.tables.proofs.Walks.{first-here, first-past, first-ended, stretch}
-use Rattle.bitmaps.proofs.Scan.{lowest, rest, all-read}
-use Rattle.bitmaps.proofs.Claims.{claims, Unread, all-unread, none-first, in-table, unread-on, further, none-next}
+use Rattle.bitmaps.proofs.Claims.{Carries}
 
 module _ (p : ℕ → ℕ → Bool) (xs : List ℕ) where
   -- a place where nothing is found: one that does not pass, or none
@@ -35,30 +34,13 @@ module _ (p : ℕ → ℕ → Bool) (xs : List ℕ) where
   pub arrived : {s : ℕ} → Come s → length xs ≤ s → Nothing ≡ firstFrom p 0 xs
   arrived {s} c h = sym (c .to ∙ first-ended p xs s h)
 
-  -- the search at what is left of a word, w
-  pub record Searches (m : List ℕ) (from w : ℕ) : Type 0 where
-    pub unread : Unread m (length xs) from w
-    pub come : Come (from + lowest w)
+  -- over slots that are not claimed, where only a claimed one passes
+  pub carries : (m : List ℕ) → ((s o : ℕ) → claimed m s ≡ false → p s o ≡ false) → Carries Come m (length xs)
+  carries m only = record { over = λ {s} {s'} h f c. passed c s' h (λ k a t u. only k (getD xs k 0) (f k a t u)) }
 
-  -- where only a claimed slot passes
-  module _ (m : List ℕ) (only : (s o : ℕ) → claimed m s ≡ false → p s o ≡ false) where
-    pub opens : {from w : ℕ} → Come from → w ≡ claims m (length xs) from → Searches m from w
-    opens {from} {w} c e = record {
-      unread = all-unread m (length xs) from w e;
-      come = passed c (from + lowest w) (omega arith) (λ k h g t. only k (getD xs k 0) (none-first m (length xs) from w e k h g t));
-    }
+  -- a turn: it is found here, or not
+  pub here : (s : ℕ) → Come s → s < length xs → p s (getD xs s 0) ≡ true → At s ≡ firstFrom p 0 xs
+  here s c h e = sym (c .to ∙ first-here p xs s 0 h e)
 
-    module _ {from w : ℕ} (i : Searches m from w) where
-      -- nothing is left: all 64 were read
-      pub closes : w ≡ 0 → Come (from + 64)
-      closes e = rw (all-read w e) at (i .come)
-
-      module _ (f : w ≡ 0 → ⊥) where
-        pub here : p (from + lowest w) (getD xs (from + lowest w) 0) ≡ true → At (from + lowest w) ≡ firstFrom p 0 xs
-        here e = sym (i .come .to ∙ first-here p xs (from + lowest w) 0 (in-table (i .unread) f) e)
-
-        pub searches-on : p (from + lowest w) (getD xs (from + lowest w) 0) ≡ false → Searches m from (rest w)
-        searches-on e = record { unread = unread-on (i .unread) f; come = passed next (from + lowest (rest w)) (omega (arith, further (i .unread) f)) (λ k h g t. only k (getD xs k 0) (none-next (i .unread) f k (omega arith) g t)) }
-          where
-            next : Come (from + lowest w + 1)
-            next = passed (i .come) (from + lowest w + 1) (omega arith) (λ k h g t. let q : k ≡ from + lowest w = omega arith in rw q e)
+  pub not-here : (s : ℕ) → Come s → p s (getD xs s 0) ≡ false → Come (s + 1)
+  not-here s c e = passed c (s + 1) (omega arith) (λ k a t u. let q : k ≡ s = omega arith in rw q e)

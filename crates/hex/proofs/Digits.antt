@@ -84,6 +84,7 @@ digit-lt c = go (sort c)
     go (decimal h g t d) = omega arith
     go (letter h g t d) = omega arith
 
+-- f, the last of them, is 102
 pub digit-small : (c : ℕ) → isDigit c ≡ true → c < 103
 digit-small c e = go (sort c)
   where
@@ -109,10 +110,10 @@ no-digit c e = go (sort c)
     go (decimal h g t d) = cc
     go (letter h g t d) = cc
 
--- two digits in one number, the first lowest: their byte by one sum
 low-bit : (q k : ℕ) → q < 2 → (q + 4 * k) % 2 ≡ q
 low-bit q k h = omega arith
 
+-- two digits in one number, the first lowest: their byte by one sum
 pub two-by-sum : (p : ℕ) → isDigit (p % 256) ≡ true → isDigit (p / 256) ≡ true → (p % 16 + p / 64 % 2 * 9) * 16 + p / 256 % 16 + p / 16384 * 9 ≡ digit (p % 256) * 16 + digit (p / 256)
 two-by-sum p d e =
     let g = digit-small (p % 256) d in

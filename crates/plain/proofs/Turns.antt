@@ -6,12 +6,12 @@ use Prim.Native.Nat.{ℕ, _+_, _*_, _/_, _%_, _^_, _≤_, _<_}
 use native.Mathlib.Nat.{le-trans}
 use native.Mathlib.Omega.{arith}
 use lib.Dec.{leb}
-use lib.ListN.{length, getD, set, List·getD-eq-default}
+use lib.ListN.{length, getD, set}
 use borrow.Author.Tests.{eq-eqb, ne-eqb, leb-true, leb-false}
 use Rattle.tables.specs.Sets.{claimed}
 use Rattle.tables.specs.declared.Found.{Found}
 use Rattle.tables.specs.declared.Found.the-variants.{Nothing, At}
-use Rattle.tables.proofs.Sets.{bit-zero}
+use Rattle.tables.proofs.Bitmap.{past-the-end}
 use Rattle.ownership.specs.Claim.{Claimant, fate, orElse, claim}
 use Rattle.ownership.specs.declared.Fate.the-variants.{Bound, Rebound, Stale, Stays}
 use Rattle.ownership.proofs.Walk.{Stands, begin, unclaimed, passes, finish}
@@ -37,7 +37,7 @@ within-bitmap slots bytes = go (leb bytes (slots / 8)) refl
     go false e = let h : slots / 8 < bytes = leb-false _ _ e in omega arith
 
 beyond : (m : List ℕ) (slots k : ℕ) → Reach slots (length m) ≤ k → k < slots → claimed m k ≡ false
-beyond m slots k h g = rw (List·getD-eq-default m 0 (short (leb (length m) (slots / 8)) h)) (bit-zero (k % 8))
+beyond m slots k h g = past-the-end m k (short (leb (length m) (slots / 8)) h)
   where
     short : (t : Bool) → cond t (length m * 8) slots ≤ k → length m ≤ k / 8
     short true h = omega arith

@@ -1,5 +1,5 @@
-// A master's claims once more, read bit by bit: every slot in turn, and nothing passed over. It shares no code with `ownership`, whose
-// reading it is held against.
+// A master's claims once more, read bit by bit: every slot in turn, and nothing passed over. `ownership` has the reading that it is held
+// against; of that it has the type of a fate, and no code.
 ghost use mathlib.Core.Path.{_≡_};
 ghost use mathlib.Core.Bool.{cond};
 ghost use Prim.Native.Nat.{_*_, _/_};

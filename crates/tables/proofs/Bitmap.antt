@@ -1,14 +1,14 @@
--- A bitmap's bits are read least first.
+-- A bitmap's bits are read least first, and past its end nothing is claimed.
 use mathlib.Core.Path.{_≡_, refl, sym, _∙_}
-use mathlib.Core.Bool.{_||_, or-false}
-use mathlib.Core.List.{[], _∷_}
-use Prim.Native.Nat.{ℕ, zero, suc, _/_, _%_}
+use mathlib.Core.Bool.{false, _||_, or-false}
+use mathlib.Core.List.{List, [], _∷_}
+use Prim.Native.Nat.{ℕ, zero, suc, _/_, _%_, _≤_}
 use native.Mathlib.Decide.{ℕ-discrete}
 use native.Mathlib.Omega.{arith}
 use lib.Dec.{eqb}
-use lib.ListN.{getD}
+use lib.ListN.{length, getD, List·getD-eq-default}
 use borrow.Author.Tests.{eq-eqb, ne-eqb}
-use Rattle.tables.specs.Sets.{bit, LeastFirst}
+use Rattle.tables.specs.Sets.{bit, claimed, LeastFirst}
 use Rattle.tables.proofs.Sets.{bit-zero, bit-power}
 
 pub least-first : (s : ℕ) → LeastFirst s
@@ -25,3 +25,6 @@ least-first s = by (s / 8) refl
         rw (m, ne-eqb s 15 (λ q. omega arith), or-false) (bit-power 0 s)
     by (suc zero) e = rw (ne-eqb s 0 (λ q. omega arith)) (bit-power 7 (s % 8) ∙ last e (ℕ-discrete (s % 8) 7))
     by (suc (suc i)) e = rw (ne-eqb s 0 (λ q. omega arith), ne-eqb s 15 (λ q. omega arith)) (bit-zero (s % 8))
+
+pub past-the-end : (bitmap : List ℕ) (s : ℕ) → length bitmap ≤ s / 8 → claimed bitmap s ≡ false
+past-the-end bitmap s h = rw (List·getD-eq-default bitmap 0 h) (bit-zero (s % 8))

@@ -23,7 +23,7 @@ use Rattle.tables.proofs.Groups.{first-group, later-group}
 -- ---- two majorities of one set meet, for sets as tests
 
 -- 1 for a test that passes, and 0
-one : Bool → ℕ
+unfoldable pub one : Bool → ℕ
 one true = 1
 one false = 0
 
@@ -59,7 +59,7 @@ majorities-meet n whole a b f g p q = ⊎-elim (λ m. m) (λ l. absurd (omega ar
 
 -- ---- the members of a word are counted by its ones
 
-one-eqb : (r : ℕ) → r < 2 → one (eqb r 1) ≡ r
+pub one-eqb : (r : ℕ) → r < 2 → one (eqb r 1) ≡ r
 unfolding one
 one-eqb zero h = refl
 one-eqb (suc zero) h = refl
@@ -199,7 +199,7 @@ has-add ws v k h = go (ℕ-discrete (k / 64) (v / 64))
 
 -- ---- a set made from a test
 
-cond-false : (t : Bool) → cond t false false ≡ false
+pub cond-false : (t : Bool) → cond t false false ≡ false
 cond-false true = refl
 cond-false false = refl
 

@@ -3,22 +3,22 @@ use mathlib.Core.Path.{_≡_, refl, sym, ap, ap₂, _∙_}
 use mathlib.Core.Bool.{Bool, true, false, cond}
 use mathlib.Core.List.{List, [], _∷_}
 use Prim.Native.Nat.{ℕ, zero, suc, _+_, _-_, _*_, _/_, _%_, _^_, min, _≤_, _<_}
-use native.Mathlib.Nat.{div-eq-of-lt, mod-lt, add-zero, lt-of-lt-of-le, lt-of-le-of-lt, pow-suc}
-use native.Mathlib.Numerals.{add-one}
+use native.Mathlib.Nat.{div-eq-of-lt, mod-one, mod-lt, one-mul, add-zero, add-mul, mul-assoc, add-assoc, lt-of-lt-of-le, lt-of-le-of-lt, pow-suc}
+use native.Mathlib.Numerals.{add-one, one-add}
 use native.Mathlib.Decide.{decLt}
 use native.Mathlib.Omega.{arith}
 use lib.Arith.{bin-ind}
 use lib.Count.{ones}
-use lib.Bits.{bitAnd, bitOr, and-shr, and-mod, and-step, and-zero-l, and-le-r, or-lt}
+use lib.Bits.{bitAnd, bitOr, and-shr, and-mod, and-step, and-zero-l, and-le-r, or-lt, or-shifted-r}
 use lib.Dec.{eqb, ltb}
 use lib.ListN.{length, getD, set, List·getD-eq-default}
 use lib.Seq.{set-out}
-use lib.Pow.{pow-pos, pow-mono, pow-lt, split}
+use lib.Pow.{pow-pos, pow-mono, pow-lt, pow-add, mod-pow-add, split, low}
 use borrow.Author.Tests.{lt-ltb, le-ltb, ltb-true, eq-eqb, ne-eqb, eqb-true}
 use Rattle.tables.specs.Sets.{bit, has, add, AllFit, majority, within, both, below, wordOf}
 use Rattle.tables.proofs.Checks.{never}
 use Rattle.tables.proofs.Groups.{bit-half}
-use Rattle.tables.proofs.Sets.{bit-zero, bit-past, has-low, has-high}
+use Rattle.tables.proofs.Sets.{one, one-eqb, bit-zero, bit-past, has-low, has-high, cond-false, word-fits}
 
 two : 0 < 2
 two = omega arith
@@ -208,13 +208,9 @@ within-fits (p ∷ ps) (w ∷ ws) e a =
 
 -- ---- both: the members of both
 
-neither : (t : Bool) → false ≡ cond t false false
-neither true = refl
-neither false = refl
-
 pub has-both : (ws vs : List ℕ) (k : ℕ) → has (both ws vs) k ≡ cond (has ws k) (has vs k) false
 has-both [] vs k = rw (bit-zero (k % 64))
-has-both (w ∷ ws) [] k = rw (bit-zero (k % 64)) (neither (has (w ∷ ws) k))
+has-both (w ∷ ws) [] k = rw (bit-zero (k % 64)) (sym (cond-false (has (w ∷ ws) k)))
 has-both (w ∷ ws) (v ∷ vs) k = by (decLt k 64) (has-both ws vs (k - 64))
   where
     by : Dec (k < 64) → has (both ws vs) (k - 64) ≡ cond (has ws (k - 64)) (has vs (k - 64)) false → has (both (w ∷ ws) (v ∷ vs)) k ≡ cond (has (w ∷ ws) k) (has (v ∷ vs) k) false
@@ -258,3 +254,43 @@ pub word-rest : (p : ℕ → Bool) (from n m : ℕ) → ((k : ℕ) → n ≤ k �
 unfolding wordOf
 word-rest p from n zero f = let e : n + 0 ≡ n = omega arith in rw e
 word-rest p from n (suc m) f = let e : n + suc m ≡ (n + m) + 1 = omega arith in rw e (word-same p from (n + m) (f (n + m) (omega arith)) ∙ word-rest p from n m f)
+
+-- one number more, as a sum
+word-step : (p : ℕ → Bool) (from n : ℕ) → wordOf p from (suc n) ≡ one (p (from + n)) * 2 ^ n + wordOf p from n
+unfolding wordOf one
+word-step p from n = by (p (from + n))
+  where
+    by : (t : Bool) → cond t (bitOr (wordOf p from n) (2 ^ n)) (wordOf p from n) ≡ one t * 2 ^ n + wordOf p from n
+    by true = ap (bitOr (wordOf p from n)) (sym (one-mul (2 ^ n))) ∙ or-shifted-r 1 n (wordOf p from n) (word-fits p from n)
+    by false = omega arith
+
+-- two words agree where their tests do
+pub word-like : (p q : ℕ → Bool) (f g n : ℕ) → ((k : ℕ) → k < n → p (f + k) ≡ q (g + k)) → wordOf p f n ≡ wordOf q g n
+unfolding wordOf
+word-like p q f g zero h = refl
+word-like p q f g (suc n) h =
+    rw (word-step p f n, word-step q g n, h n (omega arith), word-like p q f g n (λ k l. h k (omega arith)))
+
+-- a word of more numbers: the word of the first of them is its low bits
+pub word-cat : (p : ℕ → Bool) (from n j : ℕ) → wordOf p from (n + j) ≡ wordOf p (from + n) j * 2 ^ n + wordOf p from n
+unfolding wordOf
+word-cat p from n zero = let e : n + 0 ≡ n = omega arith in rw e (omega arith)
+word-cat p from n (suc j) =
+    let e : n + suc j ≡ suc (n + j) = omega arith in
+    let a : from + (n + j) ≡ from + n + j = omega arith in
+    let c : n + j ≡ j + n = omega arith in
+    rw (e, word-step p from (n + j), word-step p (from + n) j, a, word-cat p from n j, c, pow-add 2 j n, add-mul, mul-assoc) (sym (add-assoc _ _ _))
+
+-- the first n numbers of 64
+pub word-low : (p : ℕ → Bool) (from n : ℕ) → n ≤ 64 → wordOf p from 64 % 2 ^ n ≡ wordOf p from n
+word-low p from n h =
+    let e : 64 ≡ n + (64 - n) = omega arith in
+    ap (λ (x : ℕ). wordOf p from x % 2 ^ n) e ∙ rw (word-cat p from n (64 - n)) (low (wordOf p (from + n) (64 - n)) n (word-fits p from n))
+
+-- the word of a number's own bits
+pub word-bits : (b n : ℕ) → wordOf (bit b) 0 n ≡ b % 2 ^ n
+unfolding wordOf
+word-bits b zero = sym (mod-one b)
+word-bits b (suc n) =
+    let z : 0 + n ≡ n = omega arith in
+    word-step (bit b) 0 n ∙ rw (z, one-eqb (b / 2 ^ n % 2) (mod-lt (b / 2 ^ n) (omega arith)), word-bits b n, ← one-add n) (sym (mod-pow-add b 1 n))

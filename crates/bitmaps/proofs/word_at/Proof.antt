@@ -4,7 +4,8 @@ use Prim.Native.Nat.{_*_, min}
 use native.Mathlib.Omega.{arith}
 use lib.Pow.{pow-pos}
 use Rattle.tables.specs.Sets.{claimed}
-use Rattle.bitmaps.proofs.Bytes.{mask-is, word-low}
+use Rattle.tables.proofs.Words.{word-low}
+use Rattle.bitmaps.proofs.Bytes.{mask-is}
 use borrow.Author.Needs.{needs}
 use Rattle.bitmaps.proofs.word_at.Statement.{statement}
 use Rattle.bitmaps.proofs.word_at.Tie as tie

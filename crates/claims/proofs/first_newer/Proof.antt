@@ -6,15 +6,15 @@ use lib.Count.{trailing-le}
 use lib.ListN.{length, getD}
 use borrow.Author.Tests.{lt-ltb, le-ltb}
 use Rattle.bitmaps.proofs.Scan.{rest-less}
-use Rattle.bitmaps.proofs.Claims.{in-table, is-claimed}
+use Rattle.bitmaps.proofs.Claims.{Reads, in-table, is-claimed, opens, closes, reads-on}
 use Rattle.claims.specs.Claims.{newerOwner}
-use Rattle.claims.proofs.Search.{Come, Searches, set-out, arrived, opens, closes, here, searches-on}
+use Rattle.claims.proofs.Search.{Come, set-out, arrived, carries, here, not-here}
 use borrow.Author.Needs.{needs}
 use Rattle.claims.proofs.first_newer.Statement.{statement}
 use Rattle.claims.proofs.first_newer.Tie as tie
 
 abbrev Inv-loop2 : tie.InvT-loop2
-Inv-loop2 size configs slots bitmap config from word₀ word = Searches (newerOwner size (λ o. getD configs o 0) bitmap config) slots bitmap from word
+Inv-loop2 size configs slots bitmap config from word₀ word = Reads (Come (newerOwner size (λ o. getD configs o 0) bitmap config) slots) bitmap (length slots) from word
 
 abbrev μ-loop2 : tie.MeasureT-loop2
 μ-loop2 size configs slots bitmap config from word₀ word = word
@@ -35,7 +35,7 @@ word-at-requires : tie.Need-word-at-requires Inv-loop2 μ-loop2 Inv-loop μ-loop
 word-at-requires c κs = search needs
 
 loop2-holds : tie.Need-loop2-holds Inv-loop2 μ-loop2 Inv-loop μ-loop
-loop2-holds c = opens _ _ _ (λ s o e. rw e) (c .before .before .loop .inv .1) (rw (c .before .before .loop .inv .0) at (c .word-at .ensures))
+loop2-holds c = opens (carries _ _ _ (λ s o e. rw e)) (rw (c .before .before .loop .inv .0) at (c .word-at .ensures)) (c .before .before .loop .inv .1)
 
 cast-s : tie.Need-cast-s Inv-loop2 μ-loop2 Inv-loop μ-loop
 cast-s c = omega (arith, trailing-le 64 (c .before .loop2 .word))
@@ -56,7 +56,7 @@ loop2-less : tie.Need-loop2-less Inv-loop2 μ-loop2 Inv-loop μ-loop
 loop2-less c = rest-less (c .before .before .before .loop2 .word) (c .before .before .loop2-test .taken)
 
 loop2-again : tie.Need-loop2-again Inv-loop2 μ-loop2 Inv-loop μ-loop
-loop2-again c = let i = c .before .before .before .loop2 .inv in let f = c .before .before .loop2-test .taken in searches-on _ _ _ (λ s o e. rw e) i f (rw (is-claimed (i .unread) f, le-ltb _ _ (c .if1 .taken)))
+loop2-again c = let i = c .before .before .before .loop2 .inv in let f = c .before .before .loop2-test .taken in reads-on (carries _ _ _ (λ s o e. rw e)) i f (not-here _ _ _ (i .at) (rw (is-claimed (i .unread) f, le-ltb _ _ (c .if1 .taken))))
 
 cast-known-at : tie.Need-cast-known-at Inv-loop2 μ-loop2 Inv-loop μ-loop
 cast-known-at c = search needs
@@ -68,10 +68,10 @@ loop2-less-2 : tie.Need-loop2-less-2 Inv-loop2 μ-loop2 Inv-loop μ-loop
 loop2-less-2 c = rest-less (c .before .before .before .before .before .loop2 .word) (c .before .before .before .before .loop2-test .taken)
 
 loop2-again-2 : tie.Need-loop2-again-2 Inv-loop2 μ-loop2 Inv-loop μ-loop
-loop2-again-2 c = let i = c .before .before .before .before .before .loop2 .inv in let f = c .before .before .before .before .loop2-test .taken in searches-on _ _ _ (λ s o e. rw e) i f (rw (is-claimed (i .unread) f, lt-ltb _ _ (c .before .before .if1 .left), ← c .before .known-at .ensures, le-ltb _ _ (c .if2 .taken)))
+loop2-again-2 c = let i = c .before .before .before .before .before .loop2 .inv in let f = c .before .before .before .before .loop2-test .taken in reads-on (carries _ _ _ (λ s o e. rw e)) i f (not-here _ _ _ (i .at) (rw (is-claimed (i .unread) f, lt-ltb _ _ (c .before .before .if1 .left), ← c .before .known-at .ensures, le-ltb _ _ (c .if2 .taken))))
 
 returns : tie.Need-returns Inv-loop2 μ-loop2 Inv-loop μ-loop
-returns c = let i = c .before .before .before .before .before .loop2 .inv in let f = c .before .before .before .before .loop2-test .taken in here _ _ _ (λ s o e. rw e) i f (rw (is-claimed (i .unread) f, lt-ltb _ _ (c .before .before .if1 .left), ← c .before .known-at .ensures, lt-ltb _ _ (c .if2 .left)))
+returns c = let i = c .before .before .before .before .before .loop2 .inv in let f = c .before .before .before .before .loop2-test .taken in here _ _ _ (i .at) (in-table (i .unread) f) (rw (is-claimed (i .unread) f, lt-ltb _ _ (c .before .before .if1 .left), ← c .before .known-at .ensures, lt-ltb _ _ (c .if2 .left)))
 
 add-from : tie.Need-add-from Inv-loop2 μ-loop2 Inv-loop μ-loop
 add-from c = search needs
@@ -80,7 +80,7 @@ loop-less : tie.Need-loop-less Inv-loop2 μ-loop2 Inv-loop μ-loop
 loop-less c = search needs
 
 loop-again : tie.Need-loop-again Inv-loop2 μ-loop2 Inv-loop μ-loop
-loop-again c = (omega (arith, c .before .before .before .before .loop .inv .0), closes _ _ _ (λ s o e. rw e) (c .before .loop2 .inv) (c .loop2-test .left))
+loop-again c = (omega (arith, c .before .before .before .before .loop .inv .0), closes (c .before .loop2 .inv) (c .loop2-test .left))
 
 returns-2 : tie.Need-returns-2 Inv-loop2 μ-loop2 Inv-loop μ-loop
 returns-2 c = arrived _ _ (c .before .loop .inv .1) (c .loop-test .left)
