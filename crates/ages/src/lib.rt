@@ -1,4 +1,6 @@
 // How old a time is, and ages held against T: no sum or product here can wrap.
+#![tactic(auto)]
+
 ghost use Rattle.std.specs.Prelude.{◌≡◌};
 ghost use Rattle.ages.specs.Ages.{age, over_twice, under_twice, ack_too_late, opening_young};
 

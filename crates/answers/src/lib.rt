@@ -1,4 +1,6 @@
 // What a call is answered, one case for each number of documents 01 and 02.
+#![tactic(auto)]
+
 ghost use Rattle.std.specs.Prelude.{◌≡◌};
 ghost use Rattle.answers.specs.Answers.{number};
 

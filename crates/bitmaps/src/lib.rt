@@ -1,5 +1,7 @@
 // A claim's bitmap, up to 64 slots at once: the claims on them in one word, whose bits are then taken from the lowest on, so that
 // zero bytes are passed over together.
+#![tactic(auto)]
+
 ghost use Rattle.std.specs.Prelude.{◌≡◌, ◌+◌, ◌*◌, ◌≤◌, ◌<◌, min, length};
 ghost use Rattle.tables.specs.Sets.{claimed, word_of};
 

@@ -1,5 +1,7 @@
 // The gateway's cached map: who owns each slot, and how new that is (document 02, [4] and [5]). It is lent as two lists, of owners
 // and of epochs.
+#![tactic(auto)]
+
 ghost use Rattle.std.specs.Prelude.{◌≡◌, get_or, set};
 ghost use Rattle.cache.specs.Cache.{map_of, wrong_length, entry_at, held_epoch, entered};
 

@@ -1,4 +1,6 @@
 // A slot table as it is written out, read back: as it lies in memory, or as text.
+#![tactic(auto)]
+
 ghost use Rattle.std.specs.Prelude.{◌≡◌, ◌*◌, ◌<◌, length};
 ghost use Rattle.dumps.specs.Dumps.{is_space, small, is_text, digits, fours, pairs, first_odd, read_into, Outcome};
 

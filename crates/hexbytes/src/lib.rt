@@ -1,4 +1,6 @@
 // The bytes of a long line of hexadecimal, many at once.
+#![tactic(auto)]
+
 ghost use Rattle.std.specs.Prelude.{◌≡◌, true, ◌+◌, ◌*◌, ◌/◌, ◌%◌, ◌≤◌, ◌<◌, length, get_or};
 ghost use Rattle.hexdigits.specs.Hex.{is_digit, digit, all_digits, bytes_at};
 

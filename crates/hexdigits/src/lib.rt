@@ -1,4 +1,6 @@
 // Lowercase hexadecimal: the digits, bytes and numbers of a line, read.
+#![tactic(auto)]
+
 ghost use Rattle.std.specs.Prelude.{◌≡◌, ◌+◌, ◌<◌, get_or};
 ghost use Rattle.hexdigits.specs.Hex.{is_digit, digit, all_digits, byte_at, number_at};
 

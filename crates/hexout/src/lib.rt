@@ -1,4 +1,6 @@
 // Bytes and numbers written in lowercase hexadecimal.
+#![tactic(auto)]
+
 ghost use Rattle.std.specs.Prelude.{◌≡◌, [], ◌∷◌, ◌+◌, ◌<◌};
 ghost use Rattle.hexdigits.specs.Hex.{character, hex, bytes_of, over};
 

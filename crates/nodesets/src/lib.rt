@@ -1,4 +1,6 @@
 // Sets of node numbers: who may vote, whose acks were heard, who signals a failure. A set is one word, a bit for each number.
+#![tactic(auto)]
+
 ghost use Rattle.std.specs.Prelude.{◌≡◌};
 ghost use Rattle.nodesets.specs.NodeSets.{none, has, added, count, majority, within, both, among, below};
 

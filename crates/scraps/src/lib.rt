@@ -1,4 +1,6 @@
 // A line that arrives in pieces, and what is kept of it until its newline comes: document 02, [9].
+#![tactic(auto)]
+
 ghost use Rattle.std.specs.Prelude.{◌≡◌, []};
 ghost use Rattle.scraps.specs.Scraps.{short, part_of, grown, takes, Taken, taken_as};
 

@@ -1,4 +1,6 @@
 // From a key to its slot: document 01, "Keys to slots".
+#![tactic(auto)]
+
 ghost use Rattle.std.specs.Prelude.{◌≡◌};
 ghost use Rattle.slots.specs.Key.{hashed_part, with_bits, with_byte, crc16, key_slot};
 ghost use Rattle.slots.specs.Table.{ByHalfByte};

@@ -1,5 +1,7 @@
 // Sizes and bounds that every chapter shares, and the searches for a byte and for a number. The definitions and laws stand in
 // specs/ and proofs/.
+#![tactic(auto)]
+
 ghost use Rattle.std.specs.Prelude.{◌≡◌};
 ghost use Rattle.tables.specs.Lists.{first_byte, occurs};
 

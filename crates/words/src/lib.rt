@@ -1,5 +1,7 @@
 // The words of a line of a run's file (docs/REPLAY.md): the line without its comment, words that are the same, and what a word
 // says as a number or as a range of slots.
+#![tactic(auto)]
+
 ghost use Rattle.std.specs.Prelude.{◌≡◌, ◌≤◌, length};
 ghost use Rattle.words.specs.Words.{up_to, said, same};
 ghost use Rattle.words.specs.Numbers.{between, capped, longer, value, least_of, most_of, number_of, first_slot, last_slot, is_range, kept};

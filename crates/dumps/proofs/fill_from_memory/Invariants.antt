@@ -1,0 +1,13 @@
+-- `dumps::fill_from_memory`: below each place the entries are written.
+use mathlib.Core.Path.{◌≡◌, ap₂}
+use Prim.Native.Nat.{ℕ, ◌+◌, ◌*◌, ◌-◌}
+use lib.ListN.{length}
+use Rattle.dumps.proofs.Memory.{Written, written_none, write, written_all}
+use borrow.Author.Rules.{rules}
+use Rattle.dumps.proofs.fill_from_memory.Given as goal
+
+abbrev pub invariant-loop-s : goal.invariant-loop-s
+invariant-loop-s l = (length l.slots ≡ length l.initial.slots) × Written l.input l.slots l.s
+
+abbrev pub decreases-loop-s : goal.decreases-loop-s
+decreases-loop-s l = length l.initial.slots - l.s

@@ -1,0 +1,17 @@
+-- `hexbytes::fill` meets its contract.
+use mathlib.Core.Path.{◌≡◌, refl, ◌∙◌}
+use mathlib.Core.List.{◌++◌}
+use Prim.Native.Nat.{◌-◌, ◌≤◌}
+use native.Mathlib.Omega.{arith}
+use native.Mathlib.Nat.{zero-add}
+use lib.ListN.{length, drop, length-set}
+use Rattle.hexdigits.specs.Hex.{bytes_at}
+use Rattle.hexdigits.proofs.Bytes.{pair_digits, more_bytes, all_bytes}
+use borrow.Author.Rules.{rules}
+use Rattle.hexbytes.proofs.fill.Given as goal
+
+abbrev pub invariant-loop-i : goal.invariant-loop-i
+invariant-loop-i l = (l.i ≤ length l.initial.out) × (length l.out ≡ length l.initial.out) × (l.out ≡ bytes_at l.part 0 l.i ++ drop l.i l.initial.out)
+
+abbrev pub decreases-loop-i : goal.decreases-loop-i
+decreases-loop-i l = length l.initial.out - l.i

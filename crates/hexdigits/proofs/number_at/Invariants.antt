@@ -1,0 +1,14 @@
+-- `hexdigits::number_at` meets its contract.
+use mathlib.Core.Path.{◌≡◌, refl, ◌∙◌}
+use Prim.Native.Nat.{◌+◌, ◌-◌, ◌≤◌}
+use native.Mathlib.Omega.{arith}
+use Rattle.hexdigits.specs.Hex.{number_at}
+use Rattle.hexdigits.proofs.Bytes.{byte_lt, room, one_more}
+use borrow.Author.Rules.{rules}
+use Rattle.hexdigits.proofs.number_at.Given as goal
+
+abbrev pub invariant-loop-k : goal.invariant-loop-k
+invariant-loop-k l = (l.k ≤ 8) × (l.n ≡ number_at l.line l.i l.k)
+
+abbrev pub decreases-loop-k : goal.decreases-loop-k
+decreases-loop-k l = 8 - l.k

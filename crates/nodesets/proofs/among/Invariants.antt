@@ -1,0 +1,13 @@
+-- `nodesets::among` meets its contract: the entries passed are in the set.
+use mathlib.Core.Path.{sym, subst}
+use Prim.Native.Nat.{◌+◌, ◌-◌}
+use lib.ListN.{length}
+use Rattle.nodesets.proofs.Gathered.{Passed, passed_none, passed_more, passed_all}
+use borrow.Author.Rules.{rules}
+use Rattle.nodesets.proofs.among.Given as goal
+
+abbrev pub invariant-loop-i : goal.invariant-loop-i
+invariant-loop-i l = Passed l.entries l.i l.set
+
+abbrev pub decreases-loop-i : goal.decreases-loop-i
+decreases-loop-i l = length l.entries - l.i

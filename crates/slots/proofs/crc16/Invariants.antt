@@ -1,0 +1,16 @@
+-- `slots::crc16`: from each place on, the rest is divided on; the table has its rule by one computed test.
+use mathlib.Core.Path.{◌≡◌, refl, sym, ◌∙◌}
+use Prim.Native.Nat.{◌-◌, ◌≤◌}
+use lib.ListN.{length, drop}
+use Rattle.tables.specs.Below.{every}
+use Rattle.slots.specs.Key.{with_bit, with_bits, with_bytes, crc16}
+use Rattle.slots.specs.Table.{ByHalfByte}
+use Rattle.slots.proofs.Crc.{entry_of, entries_right, by_half_byte, two_more, last_one, no_more}
+use borrow.Author.Rules.{rules}
+use Rattle.slots.proofs.crc16.Given as goal
+
+abbrev pub invariant-loop-i : goal.invariant-loop-i
+invariant-loop-i l = (l.i ≤ length l.bytes) × ByHalfByte l.table × (crc16 l.bytes ≡ with_bytes l.crc (drop l.i l.bytes))
+
+abbrev pub decreases-loop-i : goal.decreases-loop-i
+decreases-loop-i l = length l.bytes - l.i

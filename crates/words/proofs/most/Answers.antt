@@ -1,0 +1,18 @@
+-- `words::most` meets its contract.
+use borrow.Author.Tests.{eq-eqb, ne_eqb}
+use Rattle.words.proofs.most.Goals as goal
+
+pub returns-then-kind-eq122 : goal.returns-then-kind-eq122
+returns-then-kind-eq122 c = rw (eq-eqb _ _ c.if-kind-eq122.true)
+
+pub returns-then-kind-eq84 : goal.returns-then-kind-eq84
+returns-then-kind-eq84 c = rw (ne_eqb _ _ c.if-kind-eq122.false, eq-eqb _ _ c.if-kind-eq84.true)
+
+pub returns-then-kind-eq111 : goal.returns-then-kind-eq111
+returns-then-kind-eq111 c = rw (ne_eqb _ _ c.if-kind-eq122.false, ne_eqb _ _ c.if-kind-eq84.false, eq-eqb _ _ c.if-kind-eq111.true)
+
+pub returns-then-kind-eq116 : goal.returns-then-kind-eq116
+returns-then-kind-eq116 c = rw (ne_eqb _ _ c.if-kind-eq122.false, ne_eqb _ _ c.if-kind-eq84.false, ne_eqb _ _ c.if-kind-eq111.false, eq-eqb _ _ c.if-kind-eq116.true)
+
+pub returns : goal.returns
+returns c = rw (ne_eqb _ _ c.if-kind-eq122.false, ne_eqb _ _ c.if-kind-eq84.false, ne_eqb _ _ c.if-kind-eq111.false, ne_eqb _ _ c.if-kind-eq116.false)
