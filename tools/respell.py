@@ -32,8 +32,8 @@ CAMEL = re.compile(r"(?<![\w'-])[a-z][a-z0-9_]*[A-Z][\w']*(?![\w-])")
 HYPHEN = re.compile(r"^\s*(?:pub |abbrev |unfoldable )*([a-zA-Z][\w']*(?:-[\w']+)+) :", re.M)
 USED = re.compile(r"^\s*(?:ghost |pub )*use ([\w.·+'-]+)\.\{([^}]*)\}", re.M)
 PARTS = {
-    ".rt": re.compile(r'(?P<comment>//[^\n]*)|(?P<string>b?"(?:\\.|[^"\\])*")|(?P<code>(?:(?!//|b?")[\s\S])+|b)'),
-    ".antt": re.compile(r'(?P<comment>--[^\n]*)|(?P<string>"(?:\\.|[^"\\])*")|(?P<code>(?:(?!--|")[\s\S])+)'),
+    ".rt": re.compile(r'(?P<comment>//[^\n]*)|(?P<string>b?"(?:\\[\s\S]|[^"\\])*")|(?P<code>(?:(?!//|b?")[\s\S])+)'),
+    ".antt": re.compile(r'(?P<comment>--[^\n]*)|(?P<string>"(?:\\[\s\S]|[^"\\])*")|(?P<code>(?:(?!--|")[\s\S])+)'),
 }
 
 
@@ -87,7 +87,11 @@ def turned(path, text, names, crates):
     kept = from_libraries(code_of(path, text), crates)
     mine = {k: v for k, v in names.items() if k not in kept}
     out = []
+    at = 0
     for m in PARTS[os.path.splitext(path)[1]].finditer(text):
+        if m.start() != at:
+            sys.exit(f"respell: {path} cannot be read at {at}")
+        at = m.end()
         if m.lastgroup == "code":
             out.append(paths_of_crates(renamed(m.group(), mine)))
         elif m.lastgroup == "comment":

@@ -12,7 +12,7 @@ use words::Fit;
 //   r a range     R a range, or nothing more     w any word     W any word, or nothing more     h a key in hexadecimal
 //   p `present` or `absent`     . nothing more
 //   0 to 6 the words `of`, `for`, `to`, `from`, `claims` or nothing more, `asking` or nothing more, `held`
-const FORMS: [u8; SIZE] = *b\
+const FORMS: [u8; SIZE] = *b"\
     -z......roster SIZE~                                    \
     -N0M....replica NODE of MASTER~                         \
     -NT.....timeout NODE T~                                 \
@@ -155,7 +155,7 @@ fn literal(word: &[u8], kind: u8) -> bool {
     words::same(
         word,
         word_of(
-            b"of for to from claims asking held present absent all,
+            b"of for to from claims asking held present absent all",
             (kind - b'0') as usize,
         ),
     )

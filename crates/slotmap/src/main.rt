@@ -37,7 +37,7 @@ fn front(bytes: &[u8], end: usize) -> &[u8]
 // ---- faults
 
 fn expected() {
-    let text = busage: slotmap SIZE, with a slot table on standard input\n\
+    let text = b"usage: slotmap SIZE, with a slot table on standard input\n\
         SIZE is how many nodes the roster has, from 1 to 64\n\
         the table has 16,384 entries: as 32,768 bytes as they lie in memory, two an entry, the low byte first; \
         or as text, four hexadecimal digits an entry, with blanks and line ends wherever one likes\n";
@@ -200,7 +200,7 @@ fn run(buf: &mut [u8], size: u16) {
             os::fail(b"slotmap: the input could not be read");
             expected();
         }
-        Input::TooLong => fault(b"the input has more than 1,048,576 bytes),
+        Input::TooLong => fault(b"the input has more than 1,048,576 bytes"),
     }
 }
 

@@ -174,7 +174,7 @@ fn put_text(out: &mut [u8], at: usize, texts: &[u8], note: Note) -> usize {
 }
 
 // All texts: the answers' first, then the others. Each goes up to a ~.
-const TEXTS: [u8; 2031] = *bdone~\
+const TEXTS: [u8; 2031] = *b"done~\
     a table has the wrong length~\
     not a frame~\
     no such node~\
@@ -281,7 +281,7 @@ const TEXTS: [u8; 2031] = *bdone~\
     refused by the node asked, ~\
     too many redirections~\
     stale, the MOVED is older than the cached entry~\
-    ~;
+    ~";
 
 // An answer begins with its number.
 fn put_kind(out: &mut [u8], at: usize, row: u8) -> usize {
