@@ -1,4 +1,6 @@
 // A record or a node with one thing changed and the rest kept.
+#![tactic(auto)]
+
 ghost use Rattle.std.specs.Prelude.{◌≡◌};
 ghost use Rattle.state.specs.Changes.{with_role, with_config, with_ping, with_flag, with_vote, with_marks, with_current, with_clock, with_election, risen, arrived};
 

@@ -1,4 +1,6 @@
 // A line of hexadecimal digits, read as a frame: document 01, "Frames (house)".
+#![tactic(auto)]
+
 ghost use Rattle.std.specs.Prelude.{◌≡◌};
 ghost use Rattle.frames.specs.Frames.{kind_of, layout_of, digits_of, header_of, framed, frame_of, bitmap_of};
 ghost use Rattle.frames.specs.declared.Listing.TheVariants.{Listed};

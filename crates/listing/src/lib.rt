@@ -1,4 +1,6 @@
 // The slot table as ranges, written to a lent list: document 02, [1], with no node.
+#![tactic(auto)]
+
 ghost use Rattle.std.specs.Prelude.{◌≡◌, ◌+◌, ◌*◌, ◌≤◌, ◌<◌, ◌∷◌, ◌++◌, length, take, drop, ltb};
 ghost use Rattle.tables.specs.Sizes.{slot_count};
 ghost use Rattle.listing.specs.Listing.{listing, laid, lists, ListAfter};

@@ -1,5 +1,7 @@
 // Records by the numbers of their nodes: a step reads and changes them in place, in the node that it holds, so what it needs
 // for that are places, and what to make of a number that has no record.
+#![tactic(auto)]
+
 ghost use Rattle.std.specs.Prelude.{◌≡◌, get_or};
 ghost use Rattle.tables.specs.Sizes.{node_room};
 ghost use Rattle.state.specs.Node.{blank};

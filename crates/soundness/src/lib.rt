@@ -1,4 +1,6 @@
 // The parts of a sound state: document 01, "The node and what it holds". What is sound as a whole is asked in `entry`.
+#![tactic(auto)]
+
 ghost use Rattle.std.specs.Prelude.{◌≡◌};
 ghost use Rattle.soundness.specs.Sound.{bounds_kept, before, follow_sound, moment_sound, flag_sound, record_sound, mark_sound, own_clear};
 

@@ -1,4 +1,6 @@
 // The key that a line of hexadecimal spells, and its slot.
+#![tactic(auto)]
+
 ghost use Rattle.std.specs.Prelude.{◌≡◌};
 ghost use Rattle.spelling.specs.Lines.{digit_of, read, left, Within, reply_of};
 

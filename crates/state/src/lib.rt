@@ -1,4 +1,6 @@
 // The node and what it holds: document 01, "The node and what it holds".
+#![tactic(auto)]
+
 ghost use Rattle.std.specs.Prelude.{◌≡◌, min};
 ghost use Rattle.tables.specs.Sizes.{node_room};
 ghost use Rattle.state.specs.Node.{masters, is_master, is_fail, is_pfail, is_clear, peer_of, followed, owns};
