@@ -4,7 +4,7 @@ use routing::Redirect;
 use tellings::Note;
 
 // The gateway's entry for the key's slot, as a question finds it: none, or one of that epoch.
-#[derive(Drop)]
+#[derive(Clone, Copy)]
 pub enum Cached {
     Nothing,
     At(u64),

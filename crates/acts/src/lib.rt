@@ -89,7 +89,7 @@ fn routed(node: Node, slots: &[u16], line: &[u8], call: Call) -> Redirect {
 
 // What a line came to: the node after it, what is said of it, END if nothing is, the answer, the node that a frame names and,
 // in the summary, how many slots the node owns. How much of a piece was handed over, 0 if nothing is left.
-#[derive(Drop)]
+#[derive(Clone, Copy)]
 pub struct Done {
     pub seat: Seat,
     pub said: Note,

@@ -8,14 +8,14 @@ use tables::Found;
 
 // What a heartbeat's claims came to: how many slots were newly bound, how many were rebound, and the lowest slot at which
 // the sender is stale.
-#[derive(Drop)]
+#[derive(Clone, Copy)]
 pub struct Tally {
     pub bound: usize,
     pub rebound: usize,
     pub stale: Found,
 }
 
-#[derive(Drop)]
+#[derive(Clone, Copy)]
 pub enum Answer {
     Done,
     // A heartbeat, and what its claims came to.
@@ -63,7 +63,7 @@ pub enum Answer {
 }
 
 // What checks in order come to.
-#[derive(Drop)]
+#[derive(Clone, Copy)]
 pub enum Check {
     Passed,
     Refused(Answer),

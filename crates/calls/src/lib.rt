@@ -80,7 +80,7 @@ pub const ALL: u64 = 256;
 pub const WORDS: usize = 64;
 
 // What a line says. A range, a frame's digits and a key are words of the line: see `word`.
-#[derive(Drop)]
+#[derive(Clone, Copy)]
 pub struct Call {
     pub form: u8,
     // Which word does not fit, counted from 1; 0 if all do.

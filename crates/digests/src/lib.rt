@@ -45,7 +45,7 @@ pub fn of_outcome(outcome: Outcome) -> u64
 }
 
 // The first four bytes of a frame.
-#[derive(Drop)]
+#[derive(Clone, Copy)]
 struct Head {
     kind: u8,
     x: u8,

@@ -15,7 +15,7 @@ const DIGITS: usize = 4 * SLOTS;
 
 // What an input is read as: a table; or, with a fault, text that has an odd character at a place, counted from 0, or that has so
 // many digits, too few or too many.
-#[derive(Drop)]
+#[derive(Clone, Copy)]
 pub enum Reading {
     Table,
     Odd(usize),

@@ -10,14 +10,14 @@ use state::{Node, Outcome};
 use tables::Found;
 
 // The answer of a line that ended, if one did.
-#[derive(Drop)]
+#[derive(Clone, Copy)]
 pub enum Told {
     NoLine,
     Answered(Answer),
 }
 
 // What a call answers, the node and the kept part after it, and how many bytes of the piece were used.
-#[derive(Drop)]
+#[derive(Clone, Copy)]
 pub struct Fed {
     pub told: Told,
     pub node: Node,

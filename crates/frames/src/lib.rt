@@ -9,7 +9,7 @@ use state::{Echo, Role, Verdict};
 
 // What every frame carries: the receiver's time, and the epochs, 0 where the kind has none. Of an ack, its epoch; else the
 // sender's currentEpoch and configEpoch.
-#[derive(Drop)]
+#[derive(Clone, Copy)]
 pub struct Header {
     pub time: u64,
     pub epoch: u64,
@@ -17,7 +17,7 @@ pub struct Header {
 }
 
 // A case for each kind, with what is the kind's own.
-#[derive(Drop)]
+#[derive(Clone, Copy)]
 pub enum Kind {
     Heartbeat {
         sender: u8,
@@ -46,21 +46,21 @@ pub enum Kind {
     Tick,
 }
 
-#[derive(Drop)]
+#[derive(Clone, Copy)]
 pub struct Frame {
     pub header: Header,
     pub kind: Kind,
 }
 
 // What a line is.
-#[derive(Drop)]
+#[derive(Clone, Copy)]
 pub enum Decoded {
     NotAFrame,
     Good(Frame),
 }
 
 // What follows a kind's first four bytes: the time; an epoch and the time; both epochs, the time and the bitmap.
-#[derive(Drop)]
+#[derive(Clone, Copy)]
 pub enum Layout {
     Short,
     Middle,
@@ -68,7 +68,7 @@ pub enum Layout {
 }
 
 // What the first four bytes say.
-#[derive(Drop)]
+#[derive(Clone, Copy)]
 enum Listing {
     Unlisted,
     Listed(Kind),

@@ -13,7 +13,7 @@ const TEXT: usize = 65536;
 const FULL: usize = 65530;
 
 // Between two reads: the line that has not ended yet, and whether the input goes on.
-#[derive(Drop)]
+#[derive(Clone, Copy)]
 struct Feed {
     rest: Rest,
     going: bool,

@@ -8,7 +8,7 @@ use tables::Found;
 
 // Of a line that has not ended yet: how many of its bytes stand at the buffer's front, and whether it is too long, so
 // that its beginning was let go.
-#[derive(Drop)]
+#[derive(Clone, Copy)]
 pub struct Rest {
     pub kept: usize,
     pub lost: bool,

@@ -14,14 +14,14 @@ pub const ROOM: usize = 512;
 pub const HOPS: u8 = 4;
 
 // A key by value: the first `length` of the bytes. A greater length than ROOM says that it is too long.
-#[derive(Drop)]
+#[derive(Clone, Copy)]
 pub struct Key {
     pub bytes: [u8; ROOM],
     pub length: usize,
 }
 
 // Which node is asked next, whether with ASKING, and the redirections so far.
-#[derive(Drop)]
+#[derive(Clone, Copy)]
 pub struct Question {
     pub node: u16,
     pub asking: bool,
@@ -29,7 +29,7 @@ pub struct Question {
 }
 
 // How a lookup ended.
-#[derive(Drop)]
+#[derive(Clone, Copy)]
 pub enum End {
     // By the node asked.
     Served(u16),
@@ -48,14 +48,14 @@ pub enum End {
 }
 
 // How a lookup stands.
-#[derive(Drop)]
+#[derive(Clone, Copy)]
 pub enum Stage {
     Asking(Question),
     Ended(End),
 }
 
 // What the gateway keeps while it waits for the network. The slot is the key's: a field for it could say another.
-#[derive(Drop)]
+#[derive(Clone, Copy)]
 pub struct Lookup {
     pub household: u64,
     pub key: Key,
@@ -63,7 +63,7 @@ pub struct Lookup {
 }
 
 // What a reply says of who owns the key's slot.
-#[derive(Drop)]
+#[derive(Clone, Copy)]
 pub enum Learned {
     Nothing,
     // And how new that is: the owner's configEpoch.
@@ -71,7 +71,7 @@ pub enum Learned {
 }
 
 // What a reply does: the lookup's next stage, and what is learned for the map.
-#[derive(Drop)]
+#[derive(Clone, Copy)]
 pub struct Turn {
     pub stage: Stage,
     pub learned: Learned,

@@ -12,7 +12,7 @@ use state::{Mark, Move, Node, Outcome};
 use tables::MARKS;
 
 // How a slot is marked.
-#[derive(Drop)]
+#[derive(Clone, Copy)]
 pub enum Marking {
     Unmarked,
     Moving(Move),

@@ -8,7 +8,7 @@ use frames::Kind;
 use state::Role;
 
 // Up to two node numbers.
-#[derive(Drop)]
+#[derive(Clone, Copy)]
 pub enum Numbers {
     Nobody,
     One(u8),
@@ -17,7 +17,7 @@ pub enum Numbers {
 
 // What a kind names: who must be in the roster, a replica and whom it follows, who may not be this node, and a reporter with
 // its subject.
-#[derive(Drop)]
+#[derive(Clone, Copy)]
 pub struct Naming {
     pub listed: Numbers,
     pub follower: Numbers,

@@ -7,7 +7,7 @@ ghost use Rattle.nodesets.specs.NodeSets.{none, has, added, count, majority, wit
 use tables::MOST_NODES;
 
 // Number v is bit v, least first.
-#[derive(Drop)]
+#[derive(Clone, Copy)]
 pub struct NodeSet {
     pub word: u64,
 }

@@ -9,7 +9,7 @@ use answers::Tally;
 use tables::Found;
 
 // What a claim of a slot comes to.
-#[derive(Drop)]
+#[derive(Clone, Copy)]
 pub enum Fate {
     // Unowned: it goes to the sender.
     Bound,

@@ -35,7 +35,9 @@ one_more : (i k : ℕ) (rs : List Record) → k < length rs → set (map_from (b
 unfolding map_from
 one_more i k [] h = absurd (not-suc-le-zero h)
 one_more i zero (r ∷ rs) h = rw (lt-ltb i (i + 0 + 1) (omega arith), nothing_below (i + 0) (suc i) rs (omega arith), nothing_below (i + 0 + 1) (suc i) rs (omega arith))
-one_more i (suc k) (r ∷ rs) h = rw (lt-ltb i (i + suc k) (omega arith), lt-ltb i (i + suc k + 1) (omega arith), add-suc i k, ← suc-add i k) (ap (λ (xs : List ℕ). r.config ∷ xs) (one_more (suc i) k rs (le_of_suc-le-suc h)))
+one_more i (suc k) (r ∷ rs) h =
+    let e : i + suc k ≡ suc i + k = omega arith in
+    rw (e, lt-ltb i (suc i + k) (omega arith), lt-ltb i (suc i + k + 1) (omega arith)) (ap (λ (xs : List ℕ). r.config ∷ xs) (one_more (suc i) k rs (le_of_suc-le-suc h)))
 
 -- ---- a loop that has collected those of the nodes below k
 

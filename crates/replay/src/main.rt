@@ -85,7 +85,7 @@ fn put_listing(out: &mut [u8], at: usize, list: &[u16], answer: Answer) -> usize
 }
 
 // The node after a line, and the run.
-#[derive(Drop)]
+#[derive(Clone, Copy)]
 struct Turn {
     seat: Seat,
     run: Run,

@@ -8,7 +8,7 @@ use marks::Marking;
 use state::{Move, Node};
 
 // A redirection, or a refusal.
-#[derive(Drop)]
+#[derive(Clone, Copy)]
 pub enum Redirect {
     WrongLength,
     Unsound,

@@ -14,7 +14,7 @@ pub const SUMMARY: u8 = calls::SILENT - 1;
 
 // How many nodes there are, 0 before the roster's line, and whether a call was made. Where the text ends, how much of a line's
 // piece was handed over, 0 if nothing is left of it, and the wins, two numbers each.
-#[derive(Drop)]
+#[derive(Clone, Copy)]
 pub struct Run {
     pub size: u64,
     pub begun: bool,
@@ -138,7 +138,7 @@ fn put_form(out: &mut [u8], at: usize, call: Call) -> usize {
 }
 
 // The nodes that a line is about, from one to before another.
-#[derive(Drop)]
+#[derive(Clone, Copy)]
 struct Span {
     first: usize,
     last: usize,
@@ -211,7 +211,7 @@ fn heeded(call: Call, fault: Note) -> Call {
 }
 
 // A line that was heard: what is done, the nodes that it is about, and the run after it.
-#[derive(Drop)]
+#[derive(Clone, Copy)]
 pub struct Heard {
     pub call: Call,
     pub first: usize,

@@ -10,14 +10,14 @@ use tables::Found;
 pub const ROOM: usize = 4200;
 
 // What is kept of a line; a length above ROOM says that it is too long already.
-#[derive(Drop)]
+#[derive(Clone, Copy)]
 pub struct Kept {
     pub bytes: [u8; ROOM],
     pub length: usize,
 }
 
 // What a piece made of it: the line with what was taken of the piece, how many bytes that was, and whether the line has ended.
-#[derive(Drop)]
+#[derive(Clone, Copy)]
 pub struct Gathered {
     pub kept: Kept,
     pub used: usize,

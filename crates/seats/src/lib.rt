@@ -10,7 +10,7 @@ use scraps::Kept;
 use state::{Flag, Node, Record, Role};
 
 // A node, and what is kept of its feed.
-#[derive(Drop)]
+#[derive(Clone, Copy)]
 pub struct Seat {
     pub node: Node,
     pub kept: Kept,

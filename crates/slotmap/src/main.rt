@@ -65,7 +65,7 @@ fn wrong_digits(count: usize) {
 }
 
 // Where a byte stands: its line and its character there, both from 1 on.
-#[derive(Drop)]
+#[derive(Clone, Copy)]
 struct Place {
     line: usize,
     character: usize,
@@ -142,7 +142,7 @@ fn roster() -> u16 {
 // ---- the table
 
 // What is read: all of the input, so many bytes of it; or a read fails; or the buffer is full.
-#[derive(Drop)]
+#[derive(Clone, Copy)]
 enum Input {
     Whole(usize),
     Failed,

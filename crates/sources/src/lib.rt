@@ -6,7 +6,7 @@ ghost use Rattle.sources.specs.Sources.{further, next, between, so_far, read_as,
 use scraps::Kept;
 
 // Where lines are read from, and the next one.
-#[derive(Drop)]
+#[derive(Clone, Copy)]
 pub struct Source {
     pub fd: i32,
     // The line, if one was found; else what is kept of it, and there is more to read.

@@ -5,14 +5,14 @@ ghost use Rattle.std.specs.Prelude.{◌≡◌};
 ghost use Rattle.spelling.specs.Lines.{digit_of, read, left, Within, reply_of};
 
 // What a line spells: a key of so many bytes, or none.
-#[derive(Drop)]
+#[derive(Clone, Copy)]
 enum Spelled {
     Key(usize),
     Nothing,
 }
 
 // What a line is answered.
-#[derive(Drop)]
+#[derive(Clone, Copy)]
 pub enum Reply {
     Slot(u16),
     Bad,

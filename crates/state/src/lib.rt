@@ -10,20 +10,20 @@ use nodesets::NodeSet;
 use tables::{MARKS, MOST_NODES, NODES};
 
 // A node's id. The roster lists its nodes in ascending order of their ids, so their numbers order as the ids do.
-#[derive(Drop)]
+#[derive(Clone, Copy)]
 pub struct NodeId {
     pub bytes: [u8; 20],
 }
 
 // A master, or the replica of the node with that number.
-#[derive(Drop)]
+#[derive(Clone, Copy)]
 pub enum Role {
     Master,
     Replica(u8),
 }
 
 // No flag, PFAIL, or FAIL with the time it was set.
-#[derive(Drop)]
+#[derive(Clone, Copy)]
 pub enum Flag {
     Clear,
     Pfail,
@@ -31,14 +31,14 @@ pub enum Flag {
 }
 
 // A time that may be missing.
-#[derive(Drop)]
+#[derive(Clone, Copy)]
 pub enum Moment {
     Never,
     At(u64),
 }
 
 // What is known of one node of the roster.
-#[derive(Drop)]
+#[derive(Clone, Copy)]
 pub struct Record {
     pub role: Role,
     // The known configEpoch.
@@ -51,21 +51,21 @@ pub struct Record {
 }
 
 // Where a slot moves: to or from a peer.
-#[derive(Drop)]
+#[derive(Clone, Copy)]
 pub enum Move {
     Migrating(u8),
     Importing(u8),
 }
 
 // A move mark.
-#[derive(Drop)]
+#[derive(Clone, Copy)]
 pub struct Mark {
     pub slot: u16,
     pub movement: Move,
 }
 
 // At most one election: its epoch, when it opened, who may vote and whose acks were heard.
-#[derive(Drop)]
+#[derive(Clone, Copy)]
 pub enum Election {
     Closed,
     Open {
@@ -77,7 +77,7 @@ pub enum Election {
 }
 
 // What a report says of its subject.
-#[derive(Drop)]
+#[derive(Clone, Copy)]
 pub enum Verdict {
     Fine,
     Pfail,
@@ -85,14 +85,14 @@ pub enum Verdict {
 }
 
 // A probe: a ping was sent, or its pong came.
-#[derive(Drop)]
+#[derive(Clone, Copy)]
 pub enum Echo {
     Ping,
     Pong,
 }
 
 // Places of the arrays past `size` or `marked` are no part of the state.
-#[derive(Drop)]
+#[derive(Clone, Copy)]
 pub struct Node {
     pub ids: [NodeId; NODES],
     pub records: [Record; NODES],
@@ -113,7 +113,7 @@ pub struct Node {
 }
 
 // What a call answers, and the node after it.
-#[derive(Drop)]
+#[derive(Clone, Copy)]
 pub struct Outcome {
     pub answer: Answer,
     pub node: Node,

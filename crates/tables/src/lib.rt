@@ -36,7 +36,7 @@ pub const LEAST_TIMEOUT: u64 = 100;
 pub const MOST_TIMEOUT: u64 = 600000;
 
 // A place counted from 0, or nothing.
-#[derive(Drop)]
+#[derive(Clone, Copy)]
 pub enum Found {
     Nothing,
     At(usize),

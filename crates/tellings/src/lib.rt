@@ -7,7 +7,7 @@ use state::{Election, Role};
 use tables::Found;
 
 // A text by its number, and the numbers that stand in it.
-#[derive(Drop)]
+#[derive(Clone, Copy)]
 pub struct Note {
     pub row: u8,
     pub first: u64,
@@ -365,7 +365,7 @@ pub fn of_kept(kept: Kept) -> Note {
 // What is told of a node after a line: the line's number and the node's, what is said, END if nothing is, the node's epochs,
 // the node that a frame names, in the summary how many slots are its own, the answer, the election if one was opened, and the
 // flags' numbers before and after.
-#[derive(Drop)]
+#[derive(Clone, Copy)]
 pub struct Told {
     pub line: u64,
     pub node: u64,

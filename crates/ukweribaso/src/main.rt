@@ -22,7 +22,7 @@ const TEXT: usize = 65536;
 const FULL: usize = 65490;
 
 // Between two reads: the node, what is kept of the line that has not ended yet, and whether the input goes on.
-#[derive(Drop)]
+#[derive(Clone, Copy)]
 struct Held {
     node: Node,
     kept: Kept,

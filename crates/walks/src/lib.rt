@@ -60,7 +60,7 @@ fn table(slots: &[u16], node: u16) -> &[u16]
 }
 
 // A lookup on its way, and where its account ends.
-#[derive(Drop)]
+#[derive(Clone, Copy)]
 struct Walked {
     lookup: Lookup,
     at: usize,

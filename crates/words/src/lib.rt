@@ -9,7 +9,7 @@ ghost use Rattle.words.specs.Numbers.{between, capped, longer, value, least_of, 
 use tables::Found;
 
 // Whether a word fits where it stands, and the number that it says.
-#[derive(Drop)]
+#[derive(Clone, Copy)]
 pub struct Fit {
     pub right: bool,
     pub value: u64,

@@ -1,0 +1,15 @@
+-- `soundness::earlier` meets its contract.
+use mathlib.Core.Path.{◌≡◌, refl, sym, ◌∙◌}
+use Prim.Native.Nat.{◌-◌, ◌≤◌}
+use native.Mathlib.Omega.{arith}
+use lib.ListN.{length, drop, length-map, drop_of_length-le}
+use borrow.Author.Rules.{rules}
+use Rattle.soundness.proofs.Order.{less_at, more_at, same_at}
+use Rattle.soundness.specs.Sound.{before}
+use Rattle.soundness.proofs.earlier.Given as goal
+
+abbrev pub invariant-loop-i : goal.invariant-loop-i
+invariant-loop-i l = (l.i ≤ 20) × (before l.a.bytes l.b.bytes ≡ before (drop l.i l.a.bytes) (drop l.i l.b.bytes))
+
+abbrev pub decreases-loop-i : goal.decreases-loop-i
+decreases-loop-i l = 20 - l.i

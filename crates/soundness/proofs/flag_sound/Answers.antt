@@ -1,0 +1,6 @@
+-- `soundness::flag_sound` meets its contract.
+use borrow.Author.Rules.{rules}
+use Rattle.soundness.proofs.flag_sound.Goals as goal
+
+pub returns-in-Fail : goal.returns-in-Fail
+returns-in-Fail c = rw c.in-Fail.is

@@ -1,0 +1,6 @@
+-- `soundness::moment_sound` meets its contract.
+use borrow.Author.Rules.{rules}
+use Rattle.soundness.proofs.moment_sound.Goals as goal
+
+pub returns-in-At : goal.returns-in-At
+returns-in-At c = rw c.in-At.is
