@@ -1,5 +1,7 @@
 // What a vote request's bitmap claims: nothing (document 02, [10]), or a slot whose owner is newer than the candidate (document
 // 01, "Vote request", 17). No node is asked: the known configEpochs come as a list, each at its node's number.
+#![tactic(auto)]
+
 ghost use Rattle.std.specs.Prelude.{◌≡◌, get_or};
 ghost use Rattle.tables.specs.Lists.{first_at};
 ghost use Rattle.claims.specs.Claims.{empty, newer_owner};

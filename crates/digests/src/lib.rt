@@ -1,4 +1,6 @@
 // Answers and frames in one number each: the C interface passes numbers and slices only.
+#![tactic(auto)]
+
 ghost use Rattle.std.specs.Prelude.{◌≡◌, [], ◌∷◌};
 ghost use Rattle.frames.specs.Lines.{verdict_byte, echo_byte, role_bytes, kind_bytes};
 ghost use Rattle.digests.specs.Digest.{place, digest, outcome_digest};

@@ -1,5 +1,7 @@
 // What every call asks first: whether the tables that it is lent have their lengths, and whether its state is sound. Cheap tests
 // come first, since every frame asks.
+#![tactic(auto)]
+
 ghost use Rattle.std.specs.Prelude.{◌≡◌, true, false, cond, ◌≤◌, ◌<◌};
 ghost use Rattle.tables.specs.Checks.{checked};
 ghost use Rattle.state.specs.Node.{record_at};

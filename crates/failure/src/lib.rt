@@ -1,6 +1,8 @@
 // Who signals a node, and the look at one node: document 01, "Report, fail", and document 02, [3]. A node gets here as it is past
 // the refusals, with the frame's time as its clock, and with the set of its voting masters. Subjects, sets, lent tables and the
 // node may be anything.
+#![tactic(auto)]
+
 ghost use Rattle.std.specs.Prelude.{◌≡◌, get_or};
 ghost use Rattle.failure.specs.Failure.{report_at, recent, signals, signallers, with_master, flag_if_signalled};
 

@@ -1,4 +1,6 @@
 // A fresh node of a roster, and fresh tables: document 01, "The node and what it holds".
+#![tactic(auto)]
+
 ghost use Rattle.std.specs.Prelude.{◌≡◌};
 ghost use Rattle.tables.specs.Sizes.{node_room};
 ghost use Rattle.fresh.specs.Fresh.{id_of, ids_of, newcomer, fresh_node, fresh_slots, fresh_reports};

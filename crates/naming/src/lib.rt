@@ -1,4 +1,6 @@
 // The node numbers that a frame names, by its kind, and the questions that the refusals ask of them.
+#![tactic(auto)]
+
 ghost use Rattle.std.specs.Prelude.{◌≡◌, eqb, leb};
 ghost use Rattle.state.specs.declared.Role.TheVariants.{Master};
 ghost use Rattle.frames.specs.declared.Kind.TheVariants.{Heartbeat, Fail};

@@ -1,5 +1,7 @@
 // Who owns a slot: what a master's bitmap makes of the slot table. Document 01, "Heartbeat", the claims. They are read 64 at a time:
 // zero bytes are passed over together, and so are slots that are the sender's own already (document 02, [2]).
+#![tactic(auto)]
+
 ghost use Rattle.std.specs.Prelude.{◌≡◌, cond, ◌+◌, ◌-◌, ◌*◌, ◌/◌, ◌≤◌, ◌<◌, min, length};
 ghost use Rattle.tables.specs.Sets.{claimed, word_of};
 ghost use Rattle.ownership.specs.Claim.{claimant, fate, or_else, claim};

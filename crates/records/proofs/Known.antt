@@ -1,5 +1,5 @@
 -- The known configEpochs as a loop over the records collects them, and records by their places.
-use mathlib.Core.Path.{◌≡◌, refl, sym, ap, ◌∙◌}
+use mathlib.Core.Path.{◌≡◌, refl, sym, ap, subst, ◌∙◌}
 use mathlib.Core.Bool.{Bool, true, false, cond}
 use mathlib.Core.List.{List, [], ◌∷◌}
 use Prim.Native.Nat.{ℕ, zero, suc, ◌+◌, ◌≤◌, ◌<◌}
@@ -36,8 +36,9 @@ unfolding map_from
 one_more i k [] h = absurd (not-suc-le-zero h)
 one_more i zero (r ∷ rs) h = rw (lt-ltb i (i + 0 + 1) (omega arith), nothing_below (i + 0) (suc i) rs (omega arith), nothing_below (i + 0 + 1) (suc i) rs (omega arith))
 one_more i (suc k) (r ∷ rs) h =
-    let e : i + suc k ≡ suc i + k = omega arith in
-    rw (e, lt-ltb i (suc i + k) (omega arith), lt-ltb i (suc i + k + 1) (omega arith)) (ap (λ (xs : List ℕ). r.config ∷ xs) (one_more (suc i) k rs (le_of_suc-le-suc h)))
+    let P : ℕ → Type 0 = λ n. set (map_from (below n) (suc i) rs) k (get_or rs k blank).config ≡ map_from (below (n + 1)) (suc i) rs in
+    let e : suc i + k ≡ i + suc k = omega arith in
+    rw (lt-ltb i (i + suc k) (omega arith), lt-ltb i (i + suc k + 1) (omega arith)) (ap (λ (xs : List ℕ). r.config ∷ xs) (subst P e (one_more (suc i) k rs (le_of_suc-le-suc h))))
 
 -- ---- a loop that has collected those of the nodes below k
 

@@ -1,4 +1,6 @@
 // An election won: document 01, "Election", answer 30, with document 02, [14].
+#![tactic(auto)]
+
 ghost use Rattle.std.specs.Prelude.{◌≡◌, cond, eqb, ltb};
 ghost use Rattle.state.specs.declared.Role.TheVariants.{Master};
 ghost use Rattle.wins.specs.Wins.{passes, handed_over, won};

@@ -1,0 +1,15 @@
+-- `claims::empty` meets its contract: as far as it has been read, nothing is claimed, so the rest decides.
+use mathlib.Core.Path.{◌≡◌, refl, sym, ◌∙◌}
+use Prim.Native.Nat.{◌-◌, ◌≤◌}
+use native.Mathlib.Omega.{arith}
+use lib.ListN.{length, drop}
+use Rattle.claims.specs.Claims.{empty}
+use Rattle.claims.proofs.Claims.{empty_past, empty_here, empty_ended}
+use borrow.Author.Rules.{rules}
+use Rattle.claims.proofs.empty.Given as goal
+
+abbrev pub invariant-loop-k : goal.invariant-loop-k
+invariant-loop-k l = (l.k ≤ length l.bitmap) × (empty l.bitmap ≡ empty (drop l.k l.bitmap))
+
+abbrev pub decreases-loop-k : goal.decreases-loop-k
+decreases-loop-k l = length l.bitmap - l.k

@@ -1,0 +1,52 @@
+-- `claims::first_newer` meets its contract: a search from the front, from one claimed slot to the next.
+use mathlib.Core.Path.{◌≡◌, refl}
+use Prim.Native.Nat.{◌-◌, ◌*◌, ◌/◌}
+use native.Mathlib.Omega.{arith}
+use lib.Count.{trailing_le}
+use lib.ListN.{length, get_or}
+use borrow.Author.Tests.{lt-ltb, le-ltb}
+use Rattle.bitmaps.proofs.Scan.{rest_less}
+use Rattle.bitmaps.proofs.Claims.{Reads, in_table, is_claimed_lem, opens, closes, reads_on}
+use Rattle.claims.specs.Claims.{newer_owner}
+use Rattle.claims.proofs.Search.{Come, set_out, arrived, carries, here, not_here}
+use borrow.Author.Rules.{rules}
+use Rattle.claims.proofs.first_newer.Goals as goal
+
+pub loop-from-init : goal.loop-from-init
+loop-from-init c = (refl, set_out _ _)
+
+pub loop-word-init : goal.loop-word-init
+loop-word-init c = opens (carries _ _ _ (λ s o e. rw e)) (rw c.loop-from.invariant.0 at c.word_at-word.ensures) c.loop-from.invariant.1
+
+pub overflow_cast-s : goal.overflow_cast-s
+overflow_cast-s c = omega (arith, trailing_le 64 c.loop-word.word)
+
+pub overflow_add-s : goal.overflow_add-s
+overflow_add-s c = omega (arith, in_table c.loop-word.invariant.unread c.loop-word-test.true)
+
+pub offset_bounds-slots-s : goal.offset_bounds-slots-s
+offset_bounds-slots-s c = omega (arith, in_table c.loop-word.invariant.unread c.loop-word-test.true)
+
+pub bounds-slots-s : goal.bounds-slots-s
+bounds-slots-s c = in_table c.loop-word.invariant.unread c.loop-word-test.true
+
+pub loop-word-smaller-then-owner-size : goal.loop-word-smaller-then-owner-size
+loop-word-smaller-then-owner-size c = rest_less c.loop-word.word c.loop-word-test.true
+
+pub loop-word-preserved-then-owner-size : goal.loop-word-preserved-then-owner-size
+loop-word-preserved-then-owner-size c = let i = c.loop-word.invariant in let f = c.loop-word-test.true in reads_on (carries _ _ _ (λ s o e. rw e)) i f (not_here _ _ _ i.at (rw (is_claimed_lem i.unread f, le-ltb _ _ c.if-owner-size.true)))
+
+pub loop-word-smaller : goal.loop-word-smaller
+loop-word-smaller c = rest_less c.loop-word.word c.loop-word-test.true
+
+pub loop-word-preserved : goal.loop-word-preserved
+loop-word-preserved c = let i = c.loop-word.invariant in let f = c.loop-word-test.true in reads_on (carries _ _ _ (λ s o e. rw e)) i f (not_here _ _ _ i.at (rw (is_claimed_lem i.unread f, lt-ltb _ _ c.if-owner-size.false, ← c.known_at.ensures, le-ltb _ _ c.if-known_at-config.true)))
+
+pub returns-in-loop-word : goal.returns-in-loop-word
+returns-in-loop-word c = let i = c.loop-word.invariant in let f = c.loop-word-test.true in here _ _ _ i.at (in_table i.unread f) (rw (is_claimed_lem i.unread f, lt-ltb _ _ c.if-owner-size.false, ← c.known_at.ensures, lt-ltb _ _ c.if-known_at-config.false))
+
+pub loop-from-preserved : goal.loop-from-preserved
+loop-from-preserved c = (omega (arith, c.loop-from.invariant.0), closes c.loop-word.invariant c.loop-word-test.false)
+
+pub returns : goal.returns
+returns c = arrived _ _ c.loop-from.invariant.1 c.loop-from-test.false

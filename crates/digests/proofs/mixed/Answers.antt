@@ -1,0 +1,6 @@
+-- `digests::mixed` meets its contract.
+use borrow.Author.Rules.{rules}
+use Rattle.digests.proofs.mixed.Goals as goal
+
+pub returns : goal.returns
+returns c = simp (c.wide-4.ensures, c.wide-3.ensures, c.wide-2.ensures, c.wide.ensures)

@@ -1,0 +1,6 @@
+-- `digests::of_frame` meets its contract.
+use borrow.Author.Rules.{rules}
+use Rattle.digests.proofs.of_frame.Goals as goal
+
+pub returns : goal.returns
+returns c = rw (← c.kind_head.ensures) c.mixed.ensures

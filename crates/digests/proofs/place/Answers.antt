@@ -1,0 +1,6 @@
+-- `digests::place` meets its contract.
+use borrow.Author.Rules.{rules}
+use Rattle.digests.proofs.place.Goals as goal
+
+pub returns-in-At : goal.returns-in-At
+returns-in-At c = rw c.in-At.is
