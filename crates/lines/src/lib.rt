@@ -1,9 +1,11 @@
 // Lines of a text that comes in pieces, and numbers written behind a text: what the programs share.
-ghost use Rattle.std.specs.Prelude.{◌≡◌, false, [], ◌∷◌};
+#![tactic(auto)]
+
+ghost use Rattle.std.specs.Prelude.{◌≡◌, false, [], ◌∷◌, IfOk};
 ghost use Rattle.lines.specs.Lines.{line_end, unfinished, Kept};
 ghost use Rattle.lines.specs.Texts.{Text, puts, decimal, drained};
 
-use libc::STDOUT_FILENO;
+use std::io::Result;
 use tables::Found;
 
 // Of a line that has not ended yet: how many of its bytes stand at the buffer's front, and whether it is too long, so
@@ -97,22 +99,22 @@ pub fn put_number(out: &mut [u8], at: usize, number: u64) -> usize
     put_text(out, at, &digits[..count])
 }
 
-// Writes the text to standard output, and says how much of it waits then: nothing.
-pub fn flush(out: &[u8], at: usize) -> usize
-    ensures { result ≡ 0 }
+// Writes the text to standard output, and says how much of it waits then: nothing. A write that fails is the error.
+pub fn flush(rt: &impl Print, out: &[u8], at: usize) -> Result<usize>
+    ensures { IfOk result (λ left. left ≡ 0) }
 {
     if at <= out.len() {
-        io::write_all(STDOUT_FILENO, &out[..at]);
+        rt.write_all(&out[..at])?;
     }
-    0
+    Ok(0)
 }
 
 // Writes the text if it has come to a length, and says how much of it waits then.
-pub fn drained(out: &[u8], at: usize, most: usize) -> usize
-    ensures { result ≡ drained most at }
+pub fn drained(rt: &impl Print, out: &[u8], at: usize, most: usize) -> Result<usize>
+    ensures { IfOk result (λ left. left ≡ drained most at) }
 {
     if at < most {
-        return at;
+        return Ok(at);
     }
-    flush(out, at)
+    flush(rt, out, at)
 }
