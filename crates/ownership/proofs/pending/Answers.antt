@@ -15,30 +15,26 @@ nothing : (t : Bool) (w : ℕ) → w ≡ 0 → 0 ≡ cond t 0 w
 nothing true w e = refl
 nothing false w e = sym e
 
--- the word that was read
-abbrev start : tie.After-word-at → tie.Start
-start c = c.before.before.before
-
 pub returns-then-word-eq0 : goal.returns-then-word-eq0
-returns-then-word-eq0 c = let a = (start c).args in nothing (all_own a.size a.sender a.slots.now a.from) _ (sym (let word : c.word_at-word.result ≡ word_of (claimed (start c).args.bitmap.now) (start c).args.from (min (length (start c).args.slots.now - (start c).args.from) 64) = rw (start c).requires.1 at c.word_at-word.ensures in word) ∙ c.if-word-eq0.true)
+returns-then-word-eq0 c = let a = (c).args in nothing (all_own a.size a.sender a.slots.now a.from) _ (sym (let word : c.word_at-word.result ≡ word_of (claimed c.args.bitmap.now) c.args.from (min (length c.args.slots.now - c.args.from) 64) = rw c.requires.1 at c.word_at-word.ensures in word) ∙ c.if-word-eq0.true)
 
 pub returns-then-sender-size : goal.returns-then-sender-size
-returns-then-sender-size c = rw (le-ltb _ _ c.if-sender-size.true) (let word : c.word_at-word.result ≡ word_of (claimed (start c).args.bitmap.now) (start c).args.from (min (length (start c).args.slots.now - (start c).args.from) 64) = rw (start c).requires.1 at c.word_at-word.ensures in word)
+returns-then-sender-size c = rw (le-ltb _ _ c.if-sender-size.true) (let word : c.word_at-word.result ≡ word_of (claimed c.args.bitmap.now) c.args.from (min (length c.args.slots.now - c.args.from) 64) = rw c.requires.1 at c.word_at-word.ensures in word)
 
 pub returns-then-left-lt64 : goal.returns-then-left-lt64
 returns-then-left-lt64 c =
-    let a = (start c).args in
-    rw (lt-ltb _ _ c.if-sender-size.false, lt-leb (a.from + 64) (length a.slots.now) (omega (arith, c.if-left-lt64.true))) (let word : c.word_at-word.result ≡ word_of (claimed (start c).args.bitmap.now) (start c).args.from (min (length (start c).args.slots.now - (start c).args.from) 64) = rw (start c).requires.1 at c.word_at-word.ensures in word)
+    let a = (c).args in
+    rw (lt-ltb _ _ c.if-sender-size.false, lt-leb (a.from + 64) (length a.slots.now) (omega (arith, c.if-left-lt64.true))) (let word : c.word_at-word.result ≡ word_of (claimed c.args.bitmap.now) c.args.from (min (length c.args.slots.now - c.args.from) 64) = rw c.requires.1 at c.word_at-word.ensures in word)
 
 pub owned_by-requires : goal.owned_by-requires
 owned_by-requires c = omega (arith, c.if-left-lt64.false)
 
 pub returns-else-owned_by : goal.returns-else-owned_by
 returns-else-owned_by c =
-    let a = (start c).args in
-    rw (lt-ltb _ _ c.if-sender-size.false, le-leb (a.from + 64) (length a.slots.now) (omega (arith, c.if-left-lt64.false)), ← c.owned_by.ensures, c.if-owned_by.false) (let word : c.word_at-word.result ≡ word_of (claimed (start c).args.bitmap.now) (start c).args.from (min (length (start c).args.slots.now - (start c).args.from) 64) = rw (start c).requires.1 at c.word_at-word.ensures in word)
+    let a = (c).args in
+    rw (lt-ltb _ _ c.if-sender-size.false, le-leb (a.from + 64) (length a.slots.now) (omega (arith, c.if-left-lt64.false)), ← c.owned_by.ensures, c.if-owned_by.false) (let word : c.word_at-word.result ≡ word_of (claimed c.args.bitmap.now) c.args.from (min (length c.args.slots.now - c.args.from) 64) = rw c.requires.1 at c.word_at-word.ensures in word)
 
 pub returns : goal.returns
 returns c =
-    let a = (start c).args in
+    let a = (c).args in
     rw (lt-ltb _ _ c.if-sender-size.false, le-leb (a.from + 64) (length a.slots.now) (omega (arith, c.if-left-lt64.false)), ← c.owned_by.ensures, c.if-owned_by.true)

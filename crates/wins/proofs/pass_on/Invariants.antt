@@ -13,6 +13,9 @@ use Rattle.wins.proofs.Passing.{passing_of}
 use borrow.Author.Rules.{rules}
 use Rattle.wins.proofs.pass_on.Given as goal
 
+abbrev pub hits : ℕ → ℕ → ℕ → Bool
+hits old s owner = eqb owner old
+
 abbrev pub invariant-loop-s : goal.invariant-loop-s
 invariant-loop-s l = Rewritten (λ slot owner. cond (hits l.old slot owner) l.me owner) l.initial.slots l.slots l.s × (l.count ≤ l.s) × (count_at (hits l.old) l.initial.slots ≡ l.count + count_from (hits l.old) l.s (drop l.s l.slots))
 
