@@ -5,7 +5,8 @@ ghost use Rattle.std.specs.Prelude.{◌≡◌, false, [], ◌∷◌, IfOk};
 ghost use Rattle.lines.specs.Lines.{line_end, unfinished, Kept};
 ghost use Rattle.lines.specs.Texts.{Text, puts, decimal, drained};
 
-use std::io::Result;
+use std::fmt::InlineText;
+use std::io::{Error, Result};
 use tables::Found;
 
 // Of a line that has not ended yet: how many of its bytes stand at the buffer's front, and whether it is too long, so
@@ -117,4 +118,21 @@ pub fn drained(rt: &impl Print, out: &[u8], at: usize, most: usize) -> Result<us
         return Ok(at);
     }
     flush(rt, out, at)
+}
+
+// An error's text without the number that std puts behind it.
+fn reason(text: &str) -> &[u8] {
+    match text.find(" (os error ") {
+        Some(end) => &text.as_bytes()[..end],
+        None => text.as_bytes(),
+    }
+}
+
+// Writes a line: what failed, as the caller names it, a colon and the reason.
+pub fn fail(to: &impl Print, what: &[u8], error: Error) -> Result<()> {
+    let text = InlineText::<256>::of(error);
+    to.write_all(what)?;
+    to.write_all(b": ")?;
+    to.write_all(reason(text.as_str()))?;
+    to.write_all(b"\n")
 }
