@@ -1,4 +1,6 @@
 // A heartbeat: document 01, "Heartbeat". The node is copied once and changed in place; a struct that is handed on costs a copy.
+#![tactic(auto)]
+
 ghost use Rattle.std.specs.Prelude.{◌≡◌};
 ghost use Rattle.tables.specs.Checks.{all_of};
 ghost use Rattle.state.specs.Node.{record_at};

@@ -1,4 +1,6 @@
 // The marks of slots that move, read, set and cleared: document 01, "Redirections".
+#![tactic(auto)]
+
 ghost use Rattle.std.specs.Prelude.{◌≡◌, ◌≤◌, ◌<◌, length};
 ghost use Rattle.tables.specs.Sizes.{slot_count, mark_room};
 ghost use Rattle.tables.specs.Checks.{checked};

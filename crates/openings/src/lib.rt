@@ -1,4 +1,6 @@
 // An election opened: document 01, "Election", and document 02, [3].
+#![tactic(auto)]
+
 ghost use Rattle.std.specs.Prelude.{◌≡◌, true, ◌<◌};
 ghost use Rattle.tables.specs.Checks.{checked};
 ghost use Rattle.tables.specs.Sizes.{top};

@@ -1,5 +1,7 @@
 // A master's claims once more, read bit by bit: every slot in turn, and nothing passed over. `ownership` has the reading that it is held
 // against; of that it has the type of a fate, and no code.
+#![tactic(auto)]
+
 ghost use Rattle.std.specs.Prelude.{◌≡◌, cond, ◌*◌, ◌/◌, leb};
 ghost use Rattle.ownership.specs.Claim.{claimant, fate, or_else, claim};
 

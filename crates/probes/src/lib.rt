@@ -1,5 +1,7 @@
 // Pings, pongs and time: document 01, "Probe, tick", and document 02, [3]. Each function gets the node as it is past the
 // refusals, with the frame's time as its clock. Subjects, lent tables and the node may be anything.
+#![tactic(auto)]
+
 ghost use Rattle.std.specs.Prelude.{◌≡◌, not, [], ◌∷◌};
 ghost use Rattle.tables.specs.Checks.{all_of};
 ghost use Rattle.state.specs.Node.{is_pfail};

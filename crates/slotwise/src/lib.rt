@@ -1,5 +1,7 @@
 // The plain engine: document 01, "Heartbeat", once more, as one writes it down on a first reading: slot after slot, every bit looked at,
 // nothing passed over. `heartbeats` has the fast engine; neither uses code of the other.
+#![tactic(auto)]
+
 ghost use Rattle.std.specs.Prelude.{◌≡◌, cond, ltb};
 ghost use Rattle.tables.specs.Sizes.{node_room};
 ghost use Rattle.tables.specs.Checks.{all_of};

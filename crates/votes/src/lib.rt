@@ -1,5 +1,7 @@
 // A vote request: document 01, "Vote request", and document 02, [3] and [10]. The node is copied once and changed in place; a
 // struct that is handed on costs a copy, so the functions here take the node for its numbers and the records beside it.
+#![tactic(auto)]
+
 ghost use Rattle.std.specs.Prelude.{◌≡◌};
 ghost use Rattle.tables.specs.Checks.{checked};
 ghost use Rattle.answers.specs.declared.Check.TheVariants.{Passed, Refused};

@@ -1,0 +1,16 @@
+-- `marks::find` meets its contract.
+use mathlib.Core.Path.{◌≡◌, refl, sym, ap, ◌∙◌}
+use Prim.Native.Nat.{◌-◌, ◌≤◌, ◌<◌}
+use native.Mathlib.Omega.{arith}
+use borrow.Author.Rules.{rules}
+use lib.ListN.{length, take, drop, length-map}
+use Rattle.tables.specs.Sizes.{mark_room}
+use Rattle.marks.specs.Marks.{marking_of}
+use Rattle.marks.proofs.Loops.{found, missed, past}
+use Rattle.marks.proofs.find.Given as goal
+
+abbrev pub invariant-loop-i : goal.invariant-loop-i
+invariant-loop-i l = (l.i ≤ l.marked) × (marking_of l.slot (take l.marked l.marks) ≡ marking_of l.slot (drop l.i (take l.marked l.marks)))
+
+abbrev pub decreases-loop-i : goal.decreases-loop-i
+decreases-loop-i l = l.marked - l.i

@@ -1,0 +1,17 @@
+-- `marks::place` meets its contract.
+use native.Mathlib.Nat.{zero-add}
+use mathlib.Core.Path.{◌≡◌, sym, ap, ◌∙◌}
+use Prim.Native.Nat.{◌+◌, ◌-◌, ◌≤◌, ◌<◌}
+use native.Mathlib.Omega.{arith}
+use borrow.Author.Rules.{rules}
+use lib.ListN.{length, take, drop, length-map}
+use Rattle.tables.specs.Sizes.{mark_room}
+use Rattle.marks.specs.Marks.{place_of}
+use Rattle.marks.proofs.Loops.{here, further, past}
+use Rattle.marks.proofs.place.Given as goal
+
+abbrev pub invariant-loop-i : goal.invariant-loop-i
+invariant-loop-i l = (l.i ≤ l.marked) × (place_of l.slot (take l.marked l.marks) ≡ l.i + place_of l.slot (drop l.i (take l.marked l.marks)))
+
+abbrev pub decreases-loop-i : goal.decreases-loop-i
+decreases-loop-i l = l.marked - l.i

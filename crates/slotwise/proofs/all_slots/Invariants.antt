@@ -1,0 +1,17 @@
+-- `slotwise::all_slots` meets its contract: each is one case of the definition's.
+use mathlib.Core.Path.{◌≡◌, refl, sym, ◌∙◌}
+use mathlib.Core.Bool.{true}
+use Prim.Native.Nat.{◌-◌, ◌<◌}
+use lib.ListN.{length, get_or, length-map}
+use Rattle.state.specs.Node.{record_at}
+use Rattle.slotwise.specs.Slotwise.{is_claimed}
+use Rattle.slotwise.proofs.Turns.{known_there, Goes, starts, unclaimed, binds, own, rebinds, tells, keeps, ends}
+use borrow.Author.Rules.{rules}
+use Rattle.slotwise.proofs.all_slots.Given as goal
+
+abbrev pub invariant-loop-s : goal.invariant-loop-s
+invariant-loop-s l =
+    (l.s-end ≡ length l.initial.slots) × Goes l.node l.sender l.config l.bitmap l.initial.slots l.s l.slots l.bound l.rebound l.stale
+
+abbrev pub decreases-loop-s : goal.decreases-loop-s
+decreases-loop-s l = length l.initial.slots - l.s

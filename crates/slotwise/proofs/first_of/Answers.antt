@@ -1,0 +1,9 @@
+-- `slotwise::first_of` meets its contract.
+use borrow.Author.Rules.{rules}
+use Rattle.slotwise.proofs.first_of.Goals as goal
+
+pub returns-in-Nothing : goal.returns-in-Nothing
+returns-in-Nothing c = rw c.in-Nothing.is
+
+pub returns-in-At : goal.returns-in-At
+returns-in-At c = rw c.in-At.is

@@ -1,0 +1,7 @@
+-- `slotwise::role_said` meets its contract.
+use mathlib.Core.Path.{◌∙◌}
+use borrow.Author.Rules.{rules}
+use Rattle.slotwise.proofs.role_said.Goals as goal
+
+pub returns : goal.returns
+returns c = c.with_record.ensures ∙ rw (c.with_role.ensures, c.record_at-known.ensures)
