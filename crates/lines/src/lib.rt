@@ -5,6 +5,7 @@ ghost use Rattle.std.specs.Prelude.{◌≡◌, false, [], ◌∷◌, IfOk};
 ghost use Rattle.lines.specs.Lines.{line_end, unfinished, Kept};
 ghost use Rattle.lines.specs.Texts.{Text, puts, decimal, drained};
 
+use std::env::{Env, FillError};
 use std::fmt::InlineText;
 use std::io::{Error, Result};
 use tables::Found;
@@ -135,4 +136,15 @@ pub fn fail(to: &impl Print, what: &[u8], error: Error) -> Result<()> {
     to.write_all(b": ")?;
     to.write_all(reason(text.as_str()))?;
     to.write_all(b"\n")
+}
+
+// How many arguments the program was started with, its own name among them.
+pub fn argument_count(env: &impl Env) -> usize {
+    let mut none = [0u8; 0];
+    for i in 0..usize::MAX {
+        if let Err(FillError::NotPresent) = env.arg(i, &mut none) {
+            return i;
+        }
+    }
+    usize::MAX
 }

@@ -8,7 +8,7 @@ ghost use Rattle.lines.specs.Texts.{Text, puts};
 ghost use Rattle.slotmap.specs.Table.{in_words};
 
 use dumps::Reading;
-use std::env::{Env, FillError};
+use std::env::Env;
 use std::io;
 use std::io::Read;
 
@@ -124,22 +124,14 @@ fn size_of(word: &[u8]) -> u16
     0
 }
 
-// Whether there is such an argument; 0 is the program's own name.
-fn is_given(env: &impl Env, i: usize) -> bool {
-    let mut none = [0u8; 0];
-    match env.arg(i, &mut none) {
-        Err(FillError::NotPresent) => false,
-        _ => true,
-    }
-}
-
 // The roster's size; 0 where the arguments do not say it.
 fn roster(env: &impl Env, err: &impl Print) -> io::Result<u16> {
-    if !is_given(env, 1) {
+    let count = lines::argument_count(env);
+    if count < 2 {
         fault(err, b"the roster's size is missing")?;
         return Ok(0);
     }
-    if is_given(env, 2) {
+    if count > 2 {
         fault(err, b"there is more than one argument")?;
         return Ok(0);
     }
