@@ -1,4 +1,6 @@
 // An ack: document 01, "Election".
+#![tactic(auto)]
+
 ghost use Rattle.std.specs.Prelude.{◌≡◌};
 ghost use Rattle.tables.specs.Checks.{checked};
 ghost use Rattle.acks.specs.Acks.{ack_checks, counted, acked};

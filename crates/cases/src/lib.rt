@@ -1,4 +1,6 @@
 // The node of document 01's cases, fresh: the program is this node.
+#![tactic(auto)]
+
 ghost use Rattle.std.specs.Prelude.{◌≡◌};
 ghost use Rattle.cases.specs.Cases.{cases_node};
 

@@ -1,5 +1,7 @@
 // The two engines of the heartbeat rule for C and Rust programs that hold one against the other: the fast one of `heartbeats` and the
 // plain one of `slotwise`. A library of their own: beside the step, a second caller of the rule costs the step a copy of the state.
+#![tactic(auto)]
+
 ghost use Rattle.std.specs.Prelude.{◌≡◌};
 ghost use Rattle.heartbeats.specs.Heartbeats.{heartbeat};
 ghost use Rattle.slotwise.specs.Slotwise.{plain_heartbeat};

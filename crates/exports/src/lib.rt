@@ -1,4 +1,6 @@
 // What C and Rust programs may call: each function here hands on to a proved one, under a name of its own.
+#![tactic(auto)]
+
 ghost use Rattle.std.specs.Prelude.{◌≡◌};
 ghost use Rattle.slots.specs.Key.{key_slot};
 ghost use Rattle.listing.specs.Listing.{lists};

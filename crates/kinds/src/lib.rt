@@ -1,4 +1,6 @@
 // What each kind of frame does, past the refusals and with clock and currentEpoch risen.
+#![tactic(auto)]
+
 ghost use Rattle.std.specs.Prelude.{◌≡◌};
 ghost use Rattle.answers.specs.declared.Answer.TheVariants.{Done};
 ghost use Rattle.state.specs.Outcomes.{answered, Slotted, Stepped};

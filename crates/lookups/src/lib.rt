@@ -1,5 +1,7 @@
 // One household's lookup of one key, and what a node's reply makes of it: document 02, [4] and [5]. The gateway's map is not seen
 // here.
+#![tactic(auto)]
+
 ghost use Rattle.std.specs.Prelude.{◌≡◌, length};
 ghost use Rattle.routing.specs.Replies.{reply};
 ghost use Rattle.lookups.specs.Keys.{key_room, front_of, key_bytes, slot_of};

@@ -1,4 +1,6 @@
 // The node's calls: a line (the refusals, then clock and currentEpoch, then the frame's kind), an opening, and marks.
+#![tactic(auto)]
+
 ghost use Rattle.std.specs.Prelude.{◌≡◌};
 ghost use Rattle.state.specs.Outcomes.{Stepped};
 ghost use Rattle.openings.specs.Openings.{opens};

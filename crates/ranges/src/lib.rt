@@ -1,4 +1,6 @@
 // The ranges of its slot table, asked of a node: document 02, [1]. The call reads the node and changes nothing but the list.
+#![tactic(auto)]
+
 ghost use Rattle.std.specs.Prelude.{◌≡◌};
 ghost use Rattle.listing.specs.Listing.{ListAfter};
 ghost use Rattle.ranges.specs.Ranges.{ranges};

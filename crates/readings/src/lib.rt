@@ -1,5 +1,7 @@
 // The readings of a bitmap against the slot table, for C and Rust programs: a claim read 64 slots at a time, the same read bit by bit,
 // and 17 of a vote request. A library of their own: beside the step, a second caller of a reading costs the step a copy of the state.
+#![tactic(auto)]
+
 ghost use Rattle.std.specs.Prelude.{◌≡◌, get_or};
 ghost use Rattle.tables.specs.Lists.{first_at};
 ghost use Rattle.ownership.specs.Claim.{claimant, claim};

@@ -1,4 +1,6 @@
 // What a frame is turned away for: the checks 1 to 8 of document 01, in their order.
+#![tactic(auto)]
+
 ghost use Rattle.std.specs.Prelude.{◌≡◌};
 ghost use Rattle.frames.specs.declared.Decoded.TheVariants.{Good};
 ghost use Rattle.refusals.specs.Refusals.{is_beyond, both_long, frame_refusal, refusal};

@@ -1,5 +1,7 @@
 // Reports and fail frames: document 01, "Report, fail", and document 02, [3]. Each function gets the node as it is past the
 // refusals, with the frame's time as its clock. Subjects, lent tables and the node may be anything.
+#![tactic(auto)]
+
 ghost use Rattle.std.specs.Prelude.{◌≡◌, set};
 ghost use Rattle.state.specs.Node.{voting_masters};
 ghost use Rattle.state.specs.Outcomes.{Reported};

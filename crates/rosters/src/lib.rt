@@ -1,4 +1,6 @@
 // Rosters of any size for callers that time their frames: fresh, some nodes of them silent.
+#![tactic(auto)]
+
 ghost use Rattle.std.specs.Prelude.{◌≡◌, ◌≤◌};
 ghost use Rattle.rosters.specs.Rosters.{silent, silenced, room, roster};
 

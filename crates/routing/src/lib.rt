@@ -1,4 +1,6 @@
 // Where a key goes: document 01, "Redirections", with the fuller MOVED of document 02, [5].
+#![tactic(auto)]
+
 ghost use Rattle.std.specs.Prelude.{◌≡◌, true, ◌<◌, length};
 ghost use Rattle.answers.specs.Answers.{number};
 ghost use Rattle.routing.specs.Replies.{reply, refused, is_entry, is_importing, at_home, elsewhere, known_epoch, redirected, routed};

@@ -1,0 +1,6 @@
+-- `lookups::slot` meets its contract.
+use borrow.Author.Rules.{rules}
+use Rattle.lookups.proofs.slot.Goals as goal
+
+pub returns : goal.returns
+returns c = rw (c.key_slot.ensures, c.part.ensures)

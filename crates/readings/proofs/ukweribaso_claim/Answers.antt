@@ -1,0 +1,6 @@
+-- `readings::ukweribaso_claim` meets its contract.
+use borrow.Author.Rules.{rules}
+use Rattle.readings.proofs.ukweribaso_claim.Goals as goal
+
+pub returns : goal.returns
+returns c = rw (c.of_tally.ensures, ← c.claim.ensures)

@@ -1,0 +1,18 @@
+-- `reports::fail` meets its contract.
+use mathlib.Core.Path.{◌≡◌, refl, sym, ◌∙◌}
+use native.Mathlib.Omega.{arith}
+use lib.ListN.{length, length-map}
+use Rattle.tables.specs.Sizes.{node_room}
+use Rattle.state.specs.Changes.{with_records}
+use Rattle.failure.proofs.Records.{record_out}
+use Rattle.reports.specs.Reports.{failed}
+use borrow.Author.Rules.{rules}
+use Rattle.reports.proofs.fail.Goals as goal
+
+pub returns-then-k-lt-NODES : goal.returns-then-k-lt-NODES
+unfolding failed with_records
+returns-then-k-lt-NODES c = rw (c.with_flag.ensures, c.fail_flag.ensures) refl
+
+pub returns-else-k-lt-NODES : goal.returns-else-k-lt-NODES
+unfolding failed
+returns-else-k-lt-NODES c = sym (record_out c.args.node c.args.subject _ (omega (arith, c.if-k-lt-NODES.false)))
