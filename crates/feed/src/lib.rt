@@ -1,4 +1,6 @@
 // A feed of lines that arrives in pieces: document 02, [9]. The line that has not ended yet is kept between the calls.
+#![tactic(auto)]
+
 ghost use Rattle.std.specs.Prelude.{◌≡◌, cond, ltb};
 ghost use Rattle.scraps.specs.Scraps.{room, part_of, grown};
 ghost use Rattle.state.specs.Outcomes.{Stepped};

@@ -1,0 +1,6 @@
+-- `exports::ukweribaso_ranges` meets its contract.
+use borrow.Author.Rules.{rules}
+use Rattle.exports.proofs.ukweribaso_ranges.Goals as goal
+
+pub returns : goal.returns
+returns c = rw (c.number.ensures, ← c.list.ensures)
