@@ -1,5 +1,7 @@
 // One lookup from its start through a list of replies, for callers that time it. It is a static library of its own
 // (`rt staticlib walking`): what the compiler makes of a function goes by what stands beside it.
+#![tactic(auto)]
+
 ghost use Rattle.std.specs.Prelude.{◌≡◌, ◌<◌};
 ghost use Rattle.routing.specs.Replies.{reply};
 ghost use Rattle.cache.specs.Cache.{map_of};
