@@ -6,7 +6,7 @@ ghost use Rattle.std.specs.Prelude.{◌≡◌, ◌≤◌, ◌<◌};
 ghost use mathlib.Core.List.{foldl};
 ghost use Rattle.cases.specs.Cases.{cases_node};
 ghost use Rattle.streams.specs.Streams.{answers_of, stream};
-ghost use Rattle.feeding.specs.Feeding.{begun, noted, Digested, digested};
+ghost use Rattle.feeding.specs.Feeding.{begun, noted, digested};
 
 use feed::Told;
 

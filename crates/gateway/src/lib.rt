@@ -1,6 +1,8 @@
 // The gateway's router: document 02, [4] and [5]. It has a cached map, the slots' owners and how new each of them is, and lookups
 // that each go their own way over it.
 // Of a node it knows what `routing` promises, and nothing else.
+#![tactic(auto)]
+
 ghost use Rattle.std.specs.Prelude.{◌≡◌};
 ghost use Rattle.routing.specs.Replies.{reply};
 ghost use Rattle.lookups.specs.Keys.{slot_of};

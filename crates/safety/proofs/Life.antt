@@ -195,7 +195,7 @@ module _ (n : ℕ) (roster : ℕ → Bool) (a : ℕ) where
       let was : PollOk h (running e set hs.before) = subst (PollOk h) hs.runs ok in (
         was.0,
         λ k t. ⊎_elim
-            (λ (q : k ≡ u). (rw q hs.voter, rw q c))
+            (λ (q : k ≡ u). (rw q hs.voter, subst (λ (v : ℕ). Counted v e (d ∷ h)) (sym q) c))
             (λ (q : hs.before k ≡ true). ((was.1 k q).0, counted_still k e d h (was.1 k q).1))
             (hs.more k t),
       )

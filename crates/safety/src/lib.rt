@@ -1,1 +1,2 @@
 // Demand 3, over every list of calls. It is a theorem about definitions: specs/ states it, proofs/ proves it.
+#![tactic(auto)]

@@ -108,7 +108,7 @@ list_told : (a b : Node) → Alike a b → (ms : List LentCall) → (told a ms �
 list_told a b e [] = (refl, e)
 list_told a b e (m ∷ ms) =
     let s = call_told a b e m.lent m.call in
-    let r = list_told _ _ s.node ms in
+    let r = list_told (called a m.lent m.call).outcome.node (called b m.lent m.call).outcome.node s.node ms in
     (λ i. (s.answer i, record { slots = s.slots i; reports = s.reports i }) ∷ r.0 i, r.1)
 
 -- ---- two nodes in the same state

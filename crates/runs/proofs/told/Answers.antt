@@ -1,5 +1,6 @@
 -- `runs::told` meets its contract.
 use borrow.Author.Tests.{eq-eqb, ne_eqb, lt-ltb, le-ltb}
+use borrow.Author.Rules.{rules}
 use Rattle.runs.proofs.told.Goals as goal
 
 pub returns-then-number-ne30 : goal.returns-then-number-ne30
