@@ -1,4 +1,6 @@
 // The lines that `replay` prints of a lookup: docs/REPLAY.md, "What is printed". The texts stand in the table of `tellings`.
+#![tactic(auto)]
+
 use lookups::{End, Key, Lookup, Question, Stage};
 use routing::Redirect;
 use tellings::Note;

@@ -1,5 +1,5 @@
 -- Listings as they are printed: computed.
-use Rattle.std.specs.Prelude.{◌≡◌, List, [], ◌∷◌, ◌++◌}
+use Rattle.std.specs.Prelude.{◌≡◌, [], ◌∷◌, ◌++◌}
 use Rattle.lines.specs.Texts.{ascii}
 use Rattle.listing.specs.Listing.{range}
 use Rattle.aloud.specs.Aloud.{spoken}

@@ -1,4 +1,6 @@
 // A listing in words, as somebody reads it out on the phone.
+#![tactic(auto)]
+
 ghost use Rattle.std.specs.Prelude.{◌≡◌, ◌*◌, ◌<◌, take};
 ghost use Rattle.lines.specs.Texts.{Text, puts};
 ghost use Rattle.listing.specs.Listing.{range};

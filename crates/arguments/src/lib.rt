@@ -1,5 +1,7 @@
 // What a line of a run's file hands on (docs/REPLAY.md): slots given to an owner, a claimed bitmap, the node that a frame names,
 // and the bytes of a key and of a feed's piece.
+#![tactic(auto)]
+
 ghost use Rattle.std.specs.Prelude.{◌≡◌, ◌<◌};
 ghost use Rattle.tables.specs.Sizes.{slot_count};
 ghost use Rattle.lines.specs.Texts.{Text, puts};

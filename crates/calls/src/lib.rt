@@ -1,5 +1,7 @@
 // A line of a run's file, and the call that it says, by a table of forms: docs/REPLAY.md. What a word says has its promise in
 // `words` and `arguments`; that a line's words are looked at in their places is held to stored output.
+#![tactic(auto)]
+
 ghost use Rattle.std.specs.Prelude.{◌≡◌, ◌+◌, ◌*◌, ◌≤◌, length};
 
 use words::Fit;

@@ -2,7 +2,7 @@
 #![tactic(auto)]
 
 ghost use Rattle.std.specs.Prelude.{◌≡◌, ◌*◌, ◌<◌, length};
-ghost use Rattle.dumps.specs.Dumps.{is_space, small, is_text, digits, fours, pairs, first_odd, read_into, Outcome};
+ghost use Rattle.dumps.specs.Dumps.{is_space, small, is_text, digits, fours, pairs, first_odd, read_into};
 
 use tables::Found;
 

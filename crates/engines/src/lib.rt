@@ -5,7 +5,7 @@
 ghost use Rattle.std.specs.Prelude.{◌≡◌};
 ghost use Rattle.heartbeats.specs.Heartbeats.{heartbeat};
 ghost use Rattle.slotwise.specs.Slotwise.{plain_heartbeat};
-ghost use Rattle.engines.specs.Engines.{role_of, role_number, known_of, node_of, epochs_of, roles_of, answer_digest, handed, Digested};
+ghost use Rattle.engines.specs.Engines.{role_of, role_number, known_of, node_of, epochs_of, roles_of, answer_digest, handed};
 
 use answers::Answer;
 use state::{Flag, Moment, Node, Outcome, Record, Role};

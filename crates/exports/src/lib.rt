@@ -4,14 +4,13 @@
 ghost use Rattle.std.specs.Prelude.{◌≡◌};
 ghost use Rattle.slots.specs.Key.{key_slot};
 ghost use Rattle.listing.specs.Listing.{lists};
-ghost use Rattle.state.specs.Outcomes.{Stepped};
 ghost use Rattle.cases.specs.Cases.{cases_node};
 ghost use Rattle.rosters.specs.Rosters.{roster};
 ghost use Rattle.frames.specs.Frames.{layout_of, bitmap_of, frame_of};
 ghost use Rattle.digests.specs.Frames.{frame_digest};
 ghost use Rattle.exports.specs.Frames.{by_layout, bitmap_after};
-ghost use Rattle.exports.specs.Listings.{numbered, Numbered};
-ghost use Rattle.exports.specs.Steps.{first, again, repeated, Repeated};
+ghost use Rattle.exports.specs.Listings.{numbered};
+ghost use Rattle.exports.specs.Steps.{first, again, repeated};
 
 use answers::Answer;
 use frames::{Decoded, Kind, Layout};

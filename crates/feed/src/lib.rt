@@ -3,7 +3,6 @@
 
 ghost use Rattle.std.specs.Prelude.{◌≡◌, cond, ltb};
 ghost use Rattle.scraps.specs.Scraps.{room, part_of, grown};
-ghost use Rattle.state.specs.Outcomes.{Stepped};
 ghost use Rattle.feed.specs.Feed.{on_line, station, fed_as, feeds};
 
 use answers::Answer;

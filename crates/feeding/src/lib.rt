@@ -1,10 +1,12 @@
 // A whole stream of lines fed to a node in pieces of one size, for callers that time it. It is a static library of its own
 // (`rt staticlib feeding`): as a second caller of the node's step beside those of `exports` it would make these slower.
+#![tactic(auto)]
+
 ghost use Rattle.std.specs.Prelude.{◌≡◌, ◌≤◌, ◌<◌};
 ghost use mathlib.Core.List.{foldl};
 ghost use Rattle.cases.specs.Cases.{cases_node};
 ghost use Rattle.streams.specs.Streams.{answers_of, stream};
-ghost use Rattle.feeding.specs.Feeding.{begun, noted, Digested, digested};
+ghost use Rattle.feeding.specs.Feeding.{begun, noted, digested};
 
 use feed::Told;
 

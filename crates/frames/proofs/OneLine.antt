@@ -5,11 +5,11 @@ use mathlib.Core.List.{List, [], ◌∷◌, ◌++◌, append-nil}
 use mathlib.Core.Logic.{◌⊎◌, inl, inr}
 use Prim.Native.Nat.{ℕ, suc, ◌+◌, ◌*◌, ◌<◌}
 use native.Mathlib.Omega.{arith}
-use lib.ListN.{length, drop, get_or, length-append}
+use lib.ListN.{length, drop, length-append}
 use lib.Dec.{eqb}
 use borrow.Author.Tests.{eqb-true, eq-eqb}
 use Rattle.tables.specs.Checks.{checked}
-use Rattle.hexdigits.specs.Hex.{digit, all_digits, byte_at, number_at, bytes_at, hex, bytes_of}
+use Rattle.hexdigits.specs.Hex.{all_digits, byte_at, number_at, bytes_at, hex, bytes_of}
 use Rattle.hexdigits.proofs.Digits.{both}
 use Rattle.hexdigits.proofs.Bytes.{byte_lt, number_lt, length_bytes}
 use Rattle.hexdigits.proofs.Writing.{

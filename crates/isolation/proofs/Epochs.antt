@@ -18,7 +18,6 @@ use Rattle.lookups.specs.declared.End.TheVariants.{Stale, Refused}
 use Rattle.lookups.specs.declared.Stage.{Stage}
 use Rattle.lookups.specs.declared.Stage.TheVariants.{Asking, Ended}
 use Rattle.lookups.specs.declared.Lookup.{Lookup}
-use Rattle.lookups.specs.declared.Learned.TheVariants.{Owner}
 use Rattle.lookups.specs.declared.Turn.{Turn}
 use Rattle.cache.specs.Cache.{Map, Entry, entry_at, held_epoch, wrong_length}
 use Rattle.gateway.specs.Gateway.{no_roster, map_checks, turn, learn, Taken, taken}

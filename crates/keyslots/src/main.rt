@@ -1,7 +1,10 @@
 // The slot of each key on standard input: a key a line, in lowercase hexadecimal, answered by its slot or by `bad`.
-use libc::STDIN_FILENO;
+#![tactic(auto)]
+
 use lines::Rest;
 use spelling::Reply;
+use std::io;
+use std::io::Read;
 use tables::Found;
 
 // A line is read whole, so it has a limit: 131,072 digits, a key of 65,536 bytes, and the newline.
@@ -54,22 +57,29 @@ fn put_reply(out: &mut [u8], at: usize, reply: Reply) -> usize {
 }
 
 // Answers every line that ends before `end`; what was looked through already ends at `seen`.
-fn answer_lines(buf: &mut [u8], out: &mut [u8], seen: usize, end: usize, lost: bool) -> Feed {
+fn answer_lines(
+    rt: &impl Print,
+    buf: &mut [u8],
+    out: &mut [u8],
+    seen: usize,
+    end: usize,
+    lost: bool,
+) -> io::Result<Feed> {
     let mut at: usize = 0;
     let mut from: usize = 0;
     let mut look = seen;
     let mut skip = lost;
     loop {
         let Found::At(stop) = lines::line_end(buf, look, end) else {
-            lines::flush(out, at);
-            return Feed {
+            lines::flush(rt, out, at)?;
+            return Ok(Feed {
                 rest: lines::unfinished(buf, from, end, skip),
                 going: true,
-            };
+            });
         };
         let reply = answer_at(buf, from, stop, skip);
         let text = put_reply(out, at, reply);
-        at = lines::drained(out, text, FULL);
+        at = lines::drained(rt, out, text, FULL)?;
         from = stop + 1;
         look = stop + 1;
         skip = false;
@@ -77,27 +87,32 @@ fn answer_lines(buf: &mut [u8], out: &mut [u8], seen: usize, end: usize, lost: b
 }
 
 // Reads once behind what is kept, and answers the lines that are whole. A buffer that is full of one line lets it go.
-fn turn(buf: &mut [u8], out: &mut [u8], rest: Rest) -> Feed {
+fn turn<R: Read>(
+    rt: &impl Print,
+    input: &mut R,
+    buf: &mut [u8],
+    out: &mut [u8],
+    rest: Rest,
+) -> io::Result<Feed> {
     let kept = rest.kept;
     if kept >= buf.len() {
-        return Feed {
+        return Ok(Feed {
             rest: Rest {
                 kept: 0,
                 lost: true,
             },
             going: true,
-        };
+        });
     }
-    let got = libc::read(STDIN_FILENO, &mut buf[kept..]);
-    if got <= 0 {
-        return Feed { rest, going: false };
+    let n = input.read(&mut buf[kept..])?;
+    if n == 0 {
+        return Ok(Feed { rest, going: false });
     }
-    let n = io::count(got, &buf[kept..]);
-    answer_lines(buf, out, kept, kept + n, rest.lost)
+    answer_lines(rt, buf, out, kept, kept + n, rest.lost)
 }
 
 // A proved loop has to end, and nothing says that the input does, so it counts down from a number that no run uses up.
-fn run(buf: &mut [u8], out: &mut [u8]) {
+fn run<R: Read>(rt: &impl Print, input: &mut R, buf: &mut [u8], out: &mut [u8]) -> io::Result<()> {
     let mut feed = Feed {
         rest: Rest {
             kept: 0,
@@ -108,16 +123,17 @@ fn run(buf: &mut [u8], out: &mut [u8]) {
     let mut turns = u64::MAX;
     while turns > 0 {
         let rest = feed.rest;
-        feed = turn(buf, out, rest);
+        feed = turn(rt, input, buf, out, rest)?;
         if !feed.going {
-            return;
+            return Ok(());
         }
         turns -= 1;
     }
+    Ok(())
 }
 
-fn main() {
+fn main(rt: HostRuntime) -> io::Result<()> {
     let mut buf = [0u8; ROOM];
     let mut out = [0u8; TEXT];
-    run(&mut buf, &mut out);
+    run(&rt, &mut rt.reader(), &mut buf, &mut out)
 }

@@ -3,7 +3,7 @@
 
 ghost use Rattle.std.specs.Prelude.{◌≡◌};
 ghost use Rattle.answers.specs.declared.Answer.TheVariants.{Done};
-ghost use Rattle.state.specs.Outcomes.{answered, Slotted, Stepped};
+ghost use Rattle.state.specs.Outcomes.{answered};
 ghost use Rattle.frames.specs.Frames.{bitmap_of};
 ghost use Rattle.heartbeats.specs.Heartbeats.{heartbeat};
 ghost use Rattle.votes.specs.Votes.{requested};

@@ -12,7 +12,6 @@ use lib.Seq.{paste, paste-zero, paste-suc, length-paste, drop-paste, get_or-drop
 use borrow.Author.Tests.{le-ltb}
 use Rattle.tables.proofs.Walks.{first_within}
 use Rattle.tables.specs.Lists.{first_byte, newline}
-use Rattle.tables.specs.Lists.{first_from}
 use Rattle.tables.specs.declared.Found.{Found}
 use Rattle.tables.specs.declared.Found.TheVariants.{Nothing, At}
 use Rattle.lines.specs.Lines.{between, onwards, line_end, shifted, Kept, unfinished}

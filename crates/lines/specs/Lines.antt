@@ -1,5 +1,5 @@
 -- Lines of a text that comes in pieces: where one ends, and what is kept of the one that has not ended yet.
-use Rattle.std.specs.Prelude.{ℕ, ◌+◌, ◌-◌, Bool, true, false, cond, List, [], ◌++◌, length, take, drop, ltb}
+use Rattle.std.specs.Prelude.{ℕ, ◌+◌, ◌-◌, Bool, true, false, cond, List, ◌++◌, length, take, drop, ltb}
 use Rattle.tables.specs.Lists.{first_byte, newline}
 use Rattle.tables.specs.declared.Found.{Found}
 use Rattle.tables.specs.declared.Found.TheVariants.{Nothing, At}

@@ -1,9 +1,13 @@
 // Lines of a text that comes in pieces, and numbers written behind a text: what the programs share.
-ghost use Rattle.std.specs.Prelude.{◌≡◌, false, [], ◌∷◌};
+#![tactic(auto)]
+
+ghost use Rattle.std.specs.Prelude.{◌≡◌, false, [], ◌∷◌, IfOk};
 ghost use Rattle.lines.specs.Lines.{line_end, unfinished, Kept};
 ghost use Rattle.lines.specs.Texts.{Text, puts, decimal, drained};
 
-use libc::STDOUT_FILENO;
+use std::env::{Env, FillError};
+use std::fmt::InlineText;
+use std::io::{Error, Result};
 use tables::Found;
 
 // Of a line that has not ended yet: how many of its bytes stand at the buffer's front, and whether it is too long, so
@@ -97,22 +101,50 @@ pub fn put_number(out: &mut [u8], at: usize, number: u64) -> usize
     put_text(out, at, &digits[..count])
 }
 
-// Writes the text to standard output, and says how much of it waits then: nothing.
-pub fn flush(out: &[u8], at: usize) -> usize
-    ensures { result ≡ 0 }
+// Writes the text to standard output, and says how much of it waits then: nothing. A write that fails is the error.
+pub fn flush(rt: &impl Print, out: &[u8], at: usize) -> Result<usize>
+    ensures { IfOk result (λ left. left ≡ 0) }
 {
     if at <= out.len() {
-        io::write_all(STDOUT_FILENO, &out[..at]);
+        rt.write_all(&out[..at])?;
     }
-    0
+    Ok(0)
 }
 
 // Writes the text if it has come to a length, and says how much of it waits then.
-pub fn drained(out: &[u8], at: usize, most: usize) -> usize
-    ensures { result ≡ drained most at }
+pub fn drained(rt: &impl Print, out: &[u8], at: usize, most: usize) -> Result<usize>
+    ensures { IfOk result (λ left. left ≡ drained most at) }
 {
     if at < most {
-        return at;
+        return Ok(at);
     }
-    flush(out, at)
+    flush(rt, out, at)
+}
+
+// An error's text without the number that std puts behind it.
+fn reason(text: &str) -> &[u8] {
+    match text.find(" (os error ") {
+        Some(end) => &text.as_bytes()[..end],
+        None => text.as_bytes(),
+    }
+}
+
+// Writes a line: what failed, as the caller names it, a colon and the reason.
+pub fn fail(to: &impl Print, what: &[u8], error: Error) -> Result<()> {
+    let text = InlineText::<256>::of(error);
+    to.write_all(what)?;
+    to.write_all(b": ")?;
+    to.write_all(reason(text.as_str()))?;
+    to.write_all(b"\n")
+}
+
+// How many arguments the program was started with, its own name among them.
+pub fn argument_count(env: &impl Env) -> usize {
+    let mut none = [0u8; 0];
+    for i in 0..usize::MAX {
+        if let Err(FillError::NotPresent) = env.arg(i, &mut none) {
+            return i;
+        }
+    }
+    usize::MAX
 }

@@ -1,22 +1,21 @@
 -- The laws of a listing, and of the list that it is written to.
 use mathlib.Core.Path.{◌≡◌, refl, sym, ap, ◌∙◌}
-use mathlib.Core.Bool.{Bool, true, false, not, cond}
+use mathlib.Core.Bool.{Bool, true, false}
 use mathlib.Core.List.{List, [], ◌∷◌, ◌++◌}
 use Prim.Native.Nat.{ℕ, zero, suc, ◌+◌, ◌-◌, ◌*◌, ◌≤◌, ◌<◌}
-use native.Mathlib.Nat.{add-zero, suc-add}
 use native.Mathlib.Omega.{arith}
 use lib.Dec.{eqb, ltb}
 use lib.ListN.{length, get_or, drop, length-append, length-drop}
 use lib.Seq.{get_or-drop, get_or-append-add}
-use borrow.Author.Tests.{eqb-true, eqb-false, ltb-true, ltb-false, eq-eqb, lt-ltb, le-ltb}
+use borrow.Author.Tests.{eqb-true, ltb-true, ltb-false, eq-eqb, le-ltb}
 use Rattle.tables.specs.Sizes.{slot_count}
 use Rattle.answers.specs.Answers.{number}
 use Rattle.answers.specs.declared.Answer.TheVariants.{Listed}
-use Rattle.listing.specs.Listing.{Range, range, ranges_from, listing, flat, laid, ListAfter, lists, entered}
+use Rattle.listing.specs.Listing.{Range, range, listing, flat, laid, ListAfter, lists, entered}
 use Rattle.listing.specs.Laws.{StandsIn, StandsInOne, ListsRanges, ListingLaws, ListLaws, AnswerLaws}
 use Rattle.listing.proofs.Stretches.{few}
 use Rattle.listing.proofs.Only.{only, lists_fit}
-use Rattle.listing.proofs.Fits.{Each, each, ascending, Some, some, fits, entry_at}
+use Rattle.listing.proofs.Fits.{Each, each, ascending, some, fits, entry_at}
 
 module _ (size : ℕ) (slots : List ℕ) where
   abbrev at : ℕ → Range

@@ -3,7 +3,7 @@
 
 ghost use Rattle.std.specs.Prelude.{◌≡◌, ◌+◌, ◌*◌, ◌≤◌, ◌<◌, ◌∷◌, ◌++◌, length, take, drop, ltb};
 ghost use Rattle.tables.specs.Sizes.{slot_count};
-ghost use Rattle.listing.specs.Listing.{listing, laid, lists, ListAfter};
+ghost use Rattle.listing.specs.Listing.{listing, laid, lists};
 ghost use Rattle.listing.specs.Stretches.{alike, is_end, one};
 
 use answers::Answer;

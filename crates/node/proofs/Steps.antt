@@ -1,11 +1,10 @@
 -- What a line comes to, for who proves something of every frame.
-use mathlib.Core.Path.{◌≡◌, refl, sym, ap, subst, ◌∙◌}
+use mathlib.Core.Path.{◌≡◌, refl, ap, ◌∙◌}
 use mathlib.Core.Bool.{true, false}
 use mathlib.Core.List.{List}
 use Prim.Native.Nat.{ℕ}
 use lib.ListN.{length}
 use Rattle.tables.specs.Checks.{checked}
-use Rattle.tables.proofs.Checks.{never}
 use Rattle.answers.specs.declared.Answer.{Answer}
 use Rattle.answers.proofs.Checks.{on_check, by_check, test_for, past}
 use Rattle.state.specs.Outcomes.{Stepped}
@@ -14,7 +13,7 @@ use Rattle.frames.specs.Frames.{frame_of, bitmap_of}
 use Rattle.frames.specs.declared.Frame.{Frame}
 use Rattle.frames.specs.declared.Decoded.{Decoded}
 use Rattle.frames.specs.declared.Decoded.TheVariants.{NotAFrame, Good}
-use Rattle.refusals.specs.Refusals.{frame_refusals, refusals, turns_away, refusal}
+use Rattle.refusals.specs.Refusals.{refusals, turns_away}
 use Rattle.refusals.proofs.Admitted.{Admitted, admitted, passes, all_turn_away}
 use Rattle.node.specs.Step.{turned_away, taken, taken_in, on_frame}
 

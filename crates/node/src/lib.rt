@@ -2,7 +2,6 @@
 #![tactic(auto)]
 
 ghost use Rattle.std.specs.Prelude.{◌≡◌};
-ghost use Rattle.state.specs.Outcomes.{Stepped};
 ghost use Rattle.openings.specs.Openings.{opens};
 ghost use Rattle.marks.specs.MarkChanges.{set_mark, clear_mark};
 ghost use Rattle.node.specs.Step.{on_frame};

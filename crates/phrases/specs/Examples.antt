@@ -1,5 +1,5 @@
 -- Numbers and texts as they are printed: computed.
-use Rattle.std.specs.Prelude.{ℕ, ◌≡◌, List, [], ◌∷◌, map}
+use Rattle.std.specs.Prelude.{◌≡◌, [], ◌∷◌, map}
 use Rattle.lines.specs.Texts.{ascii}
 use Rattle.phrases.specs.Phrases.{grouped, filled}
 

@@ -1,4 +1,6 @@
 // Numbers as people read them, and texts with such numbers in them.
+#![tactic(auto)]
+
 ghost use Rattle.std.specs.Prelude.{◌≡◌, get_or};
 ghost use Rattle.lines.specs.Texts.{Text, puts};
 ghost use Rattle.phrases.specs.Phrases.{with_comma, commas, grouped, filled};

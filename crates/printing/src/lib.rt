@@ -1,4 +1,6 @@
 // The line that is printed for an answer.
+#![tactic(auto)]
+
 ghost use Rattle.std.specs.Prelude.{◌≡◌};
 ghost use Rattle.lines.specs.Texts.{Text, puts};
 ghost use Rattle.printing.specs.Line.{printed};

@@ -2,7 +2,6 @@
 #![tactic(auto)]
 
 ghost use Rattle.std.specs.Prelude.{◌≡◌};
-ghost use Rattle.listing.specs.Listing.{ListAfter};
 ghost use Rattle.ranges.specs.Ranges.{ranges};
 
 use answers::{Answer, Check};

@@ -7,7 +7,7 @@ ghost use Rattle.tables.specs.Lists.{first_at};
 ghost use Rattle.ownership.specs.Claim.{claimant, claim};
 ghost use Rattle.claims.specs.Claims.{newer_owner};
 ghost use Rattle.digests.specs.Digest.{place};
-ghost use Rattle.readings.specs.Claims.{digested, Digested};
+ghost use Rattle.readings.specs.Claims.{digested};
 
 // A master's claims on the slot table: document 01, "Heartbeat".
 #[unsafe(no_mangle)]

@@ -1,7 +1,7 @@
 -- What a frame that none of the checks refused has: `admitted` for who goes through them, `admits` and `passes` for who knows
 -- what they came to.
 use mathlib.Core.Path.{◌≡◌, refl}
-use mathlib.Core.Bool.{Bool, true, false, not}
+use mathlib.Core.Bool.{Bool, true, false}
 use mathlib.Core.List.{List, [], ◌∷◌}
 use Prim.Native.Nat.{ℕ, ◌≤◌}
 use lib.Dec.{eqb, ltb, leb}

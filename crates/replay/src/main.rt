@@ -5,11 +5,16 @@ ghost use Rattle.std.specs.Prelude.{◌≡◌, ◌≤◌, ◌<◌, length};
 use acts::Done;
 use answers::Answer;
 use calls::Call;
-use libc::STDIN_FILENO;
 use runs::Run;
 use seats::Seat;
 use sources::Source;
 use state::{Election, Node};
+use std::env::{Env, FillError};
+use std::fs::File;
+use std::io;
+use std::io::Read;
+use std::os::fd::AsRawFd;
+use std::str;
 use tellings::Told;
 
 // The most nodes of a roster.
@@ -160,23 +165,27 @@ fn fewer(turns: u64, source: Source) -> u64
 }
 
 // Each win of a run, behind all else that is told.
-fn finish(out: &mut [u8], run: Run) {
+fn finish(to: &impl Print, out: &mut [u8], run: Run) -> io::Result<()> {
     let wins = run.wins;
     let end = tellings::put_wins(out, run.at, &wins, run.won);
-    lines::flush(out, end);
+    lines::flush(to, out, end)?;
+    Ok(())
 }
 
 // The lines of a run, and its summary. The nodes and their tables stand here, and each line takes out those that it is about; a
 // lookup goes over all of them, and changes the gateway's map and its epochs alone. The list is lent to each as it is: what is
 // read of it was written by the same line.
-fn play_lines(
+fn play_lines<R: Read>(
+    to: &impl Print,
+    err: &impl Print,
+    input: &mut R,
     begin: Source,
     buf: &mut [u8],
     list: &mut [u16],
     map: &mut [u16],
     epochs: &mut [u64],
     out: &mut [u8],
-) {
+) -> io::Result<()> {
     let mut slots = [tables::UNOWNED; ALL_SLOTS];
     let mut times = [0u64; ALL_REPORTS];
     let mut seats = [seats::newcomer(0, 0); ROOM];
@@ -184,8 +193,8 @@ fn play_lines(
     let mut source = begin;
     let mut turns = u64::MAX;
     while turns > 0 {
-        run.at = lines::drained(out, run.at, FULL);
-        source = sources::next_line(buf, source, run.handed);
+        run.at = lines::drained(to, out, run.at, FULL)?;
+        source = sources::next_line(input, err, buf, source, run.handed);
         turns = fewer(turns, source);
         let heard = runs::hear(call_of(source), source.count, run, out);
         let call = heard.call;
@@ -206,68 +215,93 @@ fn play_lines(
         let at = run.at;
         run.at = walks::look_up(map, epochs, run.size, seats, &slots, source, call, out, at);
     }
-    finish(out, run);
+    finish(to, out, run)
 }
 
 // A run. The list, the gateway's map, which has no entry yet, the epochs beside its entries, and the room for what is told stand
 // here: in the function with the loop every step of its proof would compute with their lengths.
-fn play(begin: Source, buf: &mut [u8]) {
+fn play<R: Read>(to: &impl Print, err: &impl Print, input: &mut R, begin: Source, buf: &mut [u8]) -> io::Result<()> {
     let mut list = [0u16; LIST];
     let mut map = [tables::UNOWNED; SLOTS];
     let mut epochs = [0u64; SLOTS];
     let mut out = [0u8; TEXT];
-    play_lines(begin, buf, &mut list, &mut map, &mut epochs, &mut out);
+    play_lines(to, err, input, begin, buf, &mut list, &mut map, &mut epochs, &mut out)
 }
 
 // ---- files
 
-fn put_name(path: &[u8], first: bool) {
+fn put_name(to: &impl Print, path: &[u8], first: bool) -> io::Result<()> {
     if !first {
-        lines::flush(b"\n", 1);
+        lines::flush(to, b"\n", 1)?;
     }
-    lines::flush(b"run ", 4);
-    lines::flush(path, path.len());
-    lines::flush(b"\n", 1);
+    lines::flush(to, b"run ", 4)?;
+    lines::flush(to, path, path.len())?;
+    lines::flush(to, b"\n", 1)?;
+    Ok(())
+}
+
+// Why an argument could not be taken over.
+fn unfilled(error: FillError) -> io::Error {
+    match error {
+        FillError::TooLong => io::Error::new(io::ErrorKind::InvalidFilename, "File name too long"),
+        FillError::NotPresent => io::Error::new(io::ErrorKind::InvalidInput, "Invalid argument"),
+    }
+}
+
+// A path is text here, so one that is none opens no file.
+fn open(rt: &HostRuntime, path: &[u8]) -> io::Result<File> {
+    match str::from_utf8(path) {
+        Ok(path) => File::open(rt, path),
+        Err(_) => Err(io::Error::new(io::ErrorKind::InvalidFilename, "File name is not UTF-8")),
+    }
 }
 
 // The run of the file that an argument names, under its name, with an empty line between it and the one before. A file that
 // cannot be read is named with the reason, and nothing else is said of it. Says whether a run is still the first.
-fn argument(i: usize, first: bool) -> bool {
+fn argument(rt: &HostRuntime, i: usize, first: bool) -> io::Result<bool> {
+    let err = rt.stderr();
     let mut room = [0u8; PATH];
-    let length = os::arg(i, &mut room);
-    if os::errno() != 0 {
-        os::fail(b"argument");
-        return first;
-    }
+    let length = match rt.arg(i, &mut room) {
+        Ok(length) => length,
+        Err(error) => {
+            lines::fail(&err, b"argument", unfilled(error))?;
+            return Ok(first);
+        }
+    };
     let path = sources::part(&room, 0, length);
-    let fd = os::open_read(path);
-    if fd < 0 {
-        os::fail(path);
-        return first;
-    }
+    let mut file = match open(rt, path) {
+        Ok(file) => file,
+        Err(error) => {
+            lines::fail(&err, path, error)?;
+            return Ok(first);
+        }
+    };
     let mut buf = [0u8; PIECE];
-    let got = libc::read(fd, &mut buf);
-    if got < 0 {
-        os::fail(path);
-        libc::close(fd);
-        return first;
-    }
-    put_name(path, first);
-    play(sources::opened(fd, io::count(got, &buf)), &mut buf);
-    libc::close(fd);
-    false
+    let got = match file.read(&mut buf) {
+        Ok(got) => got,
+        Err(error) => {
+            lines::fail(&err, path, error)?;
+            return Ok(first);
+        }
+    };
+    put_name(rt, path, first)?;
+    let begin = sources::opened(file.as_raw_fd(), got);
+    play(rt, &err, &mut file, begin, &mut buf)?;
+    Ok(false)
 }
 
-fn main() {
-    let count = os::arg_count();
+fn main(rt: HostRuntime) -> io::Result<()> {
+    let count = lines::argument_count(&rt);
     let mut first = true;
     let mut i: usize = 1;
     while i < count {
-        first = argument(i, first);
+        first = argument(&rt, i, first)?;
         i += 1;
     }
     if count < 2 {
+        let begin = sources::opened(rt.stdin().as_raw_fd(), 0);
         let mut buf = [0u8; PIECE];
-        play(sources::opened(STDIN_FILENO, 0), &mut buf);
+        play(&rt, &rt.stderr(), &mut rt.reader(), begin, &mut buf)?;
     }
+    Ok(())
 }

@@ -4,7 +4,6 @@
 
 ghost use Rattle.std.specs.Prelude.{◌≡◌, set};
 ghost use Rattle.state.specs.Node.{voting_masters};
-ghost use Rattle.state.specs.Outcomes.{Reported};
 ghost use Rattle.failure.specs.Failure.{report_at, stamp, looked_at};
 ghost use Rattle.reports.specs.Reports.{reported, fail_flag, failed};
 

@@ -1,4 +1,6 @@
 // A run of `replay`, line by line (docs/REPLAY.md): what it has come to, what is wrong with a line, which nodes a line is about.
+#![tactic(auto)]
+
 ghost use Rattle.std.specs.Prelude.{◌≡◌, ◌≤◌};
 ghost use Rattle.runs.specs.Runs.{nobody, reached, remembered, the_end};
 

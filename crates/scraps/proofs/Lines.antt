@@ -11,7 +11,7 @@ use lib.ListN.{length, take, get_or, set, length-append, length-set}
 use lib.Seq.{take-suc, take-suc-set, take_all, append_snoc, length-take-le}
 use borrow.Author.Tests.{lt-ltb, le-ltb, ltb-true}
 use Rattle.scraps.specs.declared.Kept.{Kept}
-use Rattle.scraps.specs.Scraps.{room, Line, short, long, part_of, longer, grown}
+use Rattle.scraps.specs.Scraps.{room, Line, short, long, part_of, grown}
 
 -- ---- more characters
 

@@ -2,7 +2,7 @@
 #![tactic(auto)]
 
 ghost use Rattle.std.specs.Prelude.{◌≡◌, []};
-ghost use Rattle.scraps.specs.Scraps.{short, part_of, grown, takes, Taken, taken_as};
+ghost use Rattle.scraps.specs.Scraps.{short, part_of, grown, takes, taken_as};
 
 use tables::Found;
 

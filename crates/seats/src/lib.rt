@@ -1,5 +1,7 @@
 // The nodes of a run of `replay`, each with what is kept of its feed: made, listed in a roster, and looked at for what is told
 // of them. docs/REPLAY.md.
+#![tactic(auto)]
+
 ghost use Rattle.std.specs.Prelude.{◌≡◌, [], map, ◌%◌};
 ghost use Rattle.tables.specs.Sizes.{node_room};
 ghost use Rattle.scraps.specs.Scraps.{short, part_of};

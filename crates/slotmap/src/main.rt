@@ -1,12 +1,16 @@
 // Slot ranges that people can read out: a slot table on standard input, as it lies in memory or as text, told in words. The one
 // argument is the roster's size. A fault is told on standard error, with what was expected.
+#![tactic(auto)]
+
 ghost use Rattle.std.specs.Prelude.{◌≡◌, cond, take};
 ghost use Rattle.words.specs.Numbers.{value, between};
 ghost use Rattle.lines.specs.Texts.{Text, puts};
 ghost use Rattle.slotmap.specs.Table.{in_words};
 
 use dumps::Reading;
-use libc::{STDERR_FILENO, STDIN_FILENO};
+use std::env::Env;
+use std::io;
+use std::io::Read;
 
 const SLOTS: usize = tables::SLOTS as usize;
 
@@ -36,32 +40,32 @@ fn front(bytes: &[u8], end: usize) -> &[u8]
 
 // ---- faults
 
-fn expected() {
+fn expected(err: &impl Print) -> io::Result<()> {
     let text = b"usage: slotmap SIZE, with a slot table on standard input\n\
         SIZE is how many nodes the roster has, from 1 to 64\n\
         the table has 16,384 entries: as 32,768 bytes as they lie in memory, two an entry, the low byte first; \
         or as text, four hexadecimal digits an entry, with blanks and line ends wherever one likes\n";
-    io::write_all(STDERR_FILENO, text);
+    err.write_all(text)
 }
 
 // What is wrong, and what is expected.
-fn fault(text: &[u8]) {
-    io::write_all(STDERR_FILENO, b"slotmap: ");
-    io::write_all(STDERR_FILENO, text);
-    io::write_all(STDERR_FILENO, b"\n");
-    expected();
+fn fault(err: &impl Print, text: &[u8]) -> io::Result<()> {
+    err.write_all(b"slotmap: ")?;
+    err.write_all(text)?;
+    err.write_all(b"\n")?;
+    expected(err)
 }
 
 // The same where a text has numbers in it, the next one for each %.
-fn fault_with(text: &[u8], numbers: &[u64]) {
+fn fault_with(err: &impl Print, text: &[u8], numbers: &[u64]) -> io::Result<()> {
     let mut out = [0u8; LINE];
     let end = phrases::put_filled(&mut out, 0, text, numbers);
-    fault(front(&out, end));
+    fault(err, front(&out, end))
 }
 
-fn wrong_digits(count: usize) {
+fn wrong_digits(err: &impl Print, count: usize) -> io::Result<()> {
     let text = b"this is no slot table: it has % and not 65,536 hexadecimal digits";
-    fault_with(text, &[count as u64]);
+    fault_with(err, text, &[count as u64])
 }
 
 // Where a byte stands: its line and its character there, both from 1 on.
@@ -91,18 +95,19 @@ fn place_behind(bytes: &[u8]) -> Place {
     }
 }
 
-fn odd_character(input: &[u8], at: usize) {
+fn odd_character(err: &impl Print, input: &[u8], at: usize) -> io::Result<()> {
     let place = place_behind(front(input, at));
     let text = b"this is no slot table: it has % and not 32,768 bytes, and character % of line % \
         is neither a hexadecimal digit nor a blank";
     fault_with(
+        err,
         text,
         &[
             input.len() as u64,
             place.character as u64,
             place.line as u64,
         ],
-    );
+    )
 }
 
 // ---- the argument
@@ -120,23 +125,23 @@ fn size_of(word: &[u8]) -> u16
 }
 
 // The roster's size; 0 where the arguments do not say it.
-fn roster() -> u16 {
-    let count = os::arg_count();
+fn roster(env: &impl Env, err: &impl Print) -> io::Result<u16> {
+    let count = lines::argument_count(env);
     if count < 2 {
-        fault(b"the roster's size is missing");
-        return 0;
+        fault(err, b"the roster's size is missing")?;
+        return Ok(0);
     }
     if count > 2 {
-        fault(b"there is more than one argument");
-        return 0;
+        fault(err, b"there is more than one argument")?;
+        return Ok(0);
     }
     let mut word = [0u8; WORD];
-    let length = os::arg(1, &mut word);
+    let length = env.arg(1, &mut word).unwrap_or(0);
     let size = size_of(&word[..length]);
     if size == 0 {
-        fault(b"the roster's size is no number from 1 to 64");
+        fault(err, b"the roster's size is no number from 1 to 64")?;
     }
-    size
+    Ok(size)
 }
 
 // ---- the table
@@ -145,22 +150,18 @@ fn roster() -> u16 {
 #[derive(Clone, Copy)]
 enum Input {
     Whole(usize),
-    Failed,
+    Failed(io::Error),
     TooLong,
 }
 
-fn take(buf: &mut [u8]) -> Input {
+fn take<R: Read>(input: &mut R, buf: &mut [u8]) -> Input {
     let mut end: usize = 0;
     while end < buf.len() {
-        let got = libc::read(STDIN_FILENO, &mut buf[end..]);
-        if got < 0 {
-            return Input::Failed;
+        match input.read(&mut buf[end..]) {
+            Err(error) => return Input::Failed(error),
+            Ok(0) => return Input::Whole(end),
+            Ok(more) => end += more,
         }
-        let more = io::count(got, &buf[end..]);
-        if more == 0 {
-            return Input::Whole(end);
-        }
-        end += more;
     }
     Input::TooLong
 }
@@ -174,41 +175,55 @@ fn put_table(slots: &[u16; SLOTS], size: u16, list: &mut [u16; LIST], out: &mut 
     totals::put_totals(out, end, slots, size)
 }
 
-fn print(slots: &[u16; SLOTS], size: u16, list: &mut [u16; LIST], out: &mut [u8]) {
+fn print(
+    to: &impl Print,
+    slots: &[u16; SLOTS],
+    size: u16,
+    list: &mut [u16; LIST],
+    out: &mut [u8],
+) -> io::Result<()> {
     let end = put_table(slots, size, list, out);
-    lines::flush(out, end);
+    lines::flush(to, out, end)?;
+    Ok(())
 }
 
-fn tell(input: &[u8], size: u16) {
+fn tell(to: &impl Print, err: &impl Print, input: &[u8], size: u16) -> io::Result<()> {
     let mut slots = [tables::UNOWNED; SLOTS];
     let mut list = [0u16; LIST];
     let mut out = [0u8; TEXT];
     let reading = dumps::read(input, &mut slots);
     match reading {
-        Reading::Table => print(&slots, size, &mut list, &mut out),
-        Reading::Odd(place) => odd_character(input, place),
-        Reading::Digits(count) => wrong_digits(count),
+        Reading::Table => print(to, &slots, size, &mut list, &mut out),
+        Reading::Odd(place) => odd_character(err, input, place),
+        Reading::Digits(count) => wrong_digits(err, count),
     }
 }
 
 // All of it, with room for the input.
-fn run(buf: &mut [u8], size: u16) {
-    let input = take(buf);
+fn run<R: Read>(
+    to: &impl Print,
+    err: &impl Print,
+    from: &mut R,
+    buf: &mut [u8],
+    size: u16,
+) -> io::Result<()> {
+    let input = take(from, buf);
     match input {
-        Input::Whole(end) => tell(front(buf, end), size),
-        Input::Failed => {
-            os::fail(b"slotmap: the input could not be read");
-            expected();
+        Input::Whole(end) => tell(to, err, front(buf, end), size),
+        Input::Failed(error) => {
+            lines::fail(err, b"slotmap: the input could not be read", error)?;
+            expected(err)
         }
-        Input::TooLong => fault(b"the input has more than 1,048,576 bytes"),
+        Input::TooLong => fault(err, b"the input has more than 1,048,576 bytes"),
     }
 }
 
-fn main() {
-    let size = roster();
+fn main(rt: HostRuntime) -> io::Result<()> {
+    let err = rt.stderr();
+    let size = roster(&rt, &err)?;
     if size == 0 {
-        return;
+        return Ok(());
     }
     let mut buf = [0u8; ROOM];
-    run(&mut buf, size);
+    run(&rt, &err, &mut rt.reader(), &mut buf, size)
 }

@@ -1,13 +1,17 @@
 // The lines of a run's file, which is read in pieces: docs/REPLAY.md.
+#![tactic(auto)]
+
 ghost use Rattle.std.specs.Prelude.{◌≡◌, true, false, cond, [], ◌<◌};
 ghost use Rattle.scraps.specs.Scraps.{short, part_of};
 ghost use Rattle.sources.specs.Sources.{further, next, between, so_far, read_as, takes_on, in_buffer, continues, closes};
 
 use scraps::Kept;
+use std::io::Read;
 
 // Where lines are read from, and the next one.
 #[derive(Clone, Copy)]
 pub struct Source {
+    // The file's descriptor. Its bytes come from a reader, which `next_line` is given.
     pub fd: i32,
     // The line, if one was found; else what is kept of it, and there is more to read.
     pub found: bool,
@@ -115,7 +119,7 @@ fn close(past: Source) -> Source
 
 // Reads once. Where reading fails the reason is named, and what came before it counts.
 // What is kept of the line stays: the buffer is written over, so it stands nowhere else.
-fn more(buf: &mut [u8], past: Source) -> Source
+fn more<R: Read>(input: &mut R, err: &impl Print, buf: &mut [u8], past: Source) -> Source
     ensures { part_of result.kept ≡ part_of past.kept }
 {
     let mut here = past;
@@ -125,21 +129,29 @@ fn more(buf: &mut [u8], past: Source) -> Source
         here.ended = true;
         return here;
     }
-    let got = libc::read(past.fd, buf);
-    if got < 0 {
-        os::fail(b"reading");
-        return close(here);
+    match input.read(buf) {
+        Err(error) => {
+            // Whether the reason could be told changes nothing.
+            let _told = lines::fail(err, b"reading", error);
+            close(here)
+        }
+        Ok(0) => close(here),
+        Ok(got) => {
+            here.end = got;
+            here
+        }
     }
-    if got == 0 {
-        return close(here);
-    }
-    here.end = io::count(got, buf);
-    here
 }
 
 // The next line, or what is read once to find it: then what the buffer had of the line is kept.
 // A line of which some was handed over is the next one again.
-pub fn next_line(buf: &mut [u8], past: Source, handed: usize) -> Source
+pub fn next_line<R: Read>(
+    input: &mut R,
+    err: &impl Print,
+    buf: &mut [u8],
+    past: Source,
+    handed: usize,
+) -> Source
     ensures { (0 < handed → result ≡ past) × (handed ≡ 0 → continues (in_buffer past buf.old) (read_as result)) }
 {
     if handed > 0 {
@@ -149,7 +161,7 @@ pub fn next_line(buf: &mut [u8], past: Source, handed: usize) -> Source
     if here.found {
         return here;
     }
-    more(buf, here)
+    more(input, err, buf, here)
 }
 
 // What stands between two places of the buffer.

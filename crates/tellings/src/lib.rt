@@ -1,4 +1,6 @@
 // The lines that `replay` prints: docs/REPLAY.md, "What is printed". Every text stands in a table, by its number.
+#![tactic(auto)]
+
 use answers::{Answer, Tally};
 use nodesets::NodeSet;
 use routing::Redirect;

@@ -1,4 +1,6 @@
 // The last line below a listing in words: how many slots each node owns, and how many nobody.
+#![tactic(auto)]
+
 ghost use Rattle.std.specs.Prelude.{◌≡◌};
 ghost use Rattle.lines.specs.Texts.{Text, puts};
 ghost use Rattle.totals.specs.Totals.{owned, ownerless, share, shares, remainder, totals};

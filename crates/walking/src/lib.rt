@@ -5,7 +5,7 @@
 ghost use Rattle.std.specs.Prelude.{◌≡◌, ◌<◌};
 ghost use Rattle.routing.specs.Replies.{reply};
 ghost use Rattle.cache.specs.Cache.{map_of};
-ghost use Rattle.walking.specs.Walking.{reply_of, key_of, begun, walked, word, end_digest, stage_digest, first_of, last_of, key_digest, lookup_digest, digested, Digested};
+ghost use Rattle.walking.specs.Walking.{reply_of, key_of, begun, walked, word, end_digest, stage_digest, first_of, last_of, key_digest, lookup_digest, digested};
 
 use lookups::{End, Key, Lookup, Stage};
 use routing::Redirect;

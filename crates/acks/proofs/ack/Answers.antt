@@ -6,7 +6,6 @@ use Rattle.answers.specs.declared.Answer.{Answer}
 use Rattle.state.specs.Outcomes.{answered}
 use Rattle.acks.specs.Acks.{ack_checks, counted, heard_in, acked}
 use Rattle.answers.proofs.Checks.{on_check, by_check}
-use borrow.Author.Rules.{rules}
 use Rattle.acks.proofs.ack.Goals as goal
 
 pub returns-in-Closed : goal.returns-in-Closed

@@ -1,13 +1,10 @@
 -- `acks::ack_refusal` meets its contract: each return is one row of the checks.
 use mathlib.Core.Path.{◌≡◌, sym, ◌∙◌}
-use Prim.Native.Nat.{ℕ}
 use lib.ListN.{drop}
 use borrow.Author.Tests.{eq-eqb, ne_eqb}
 use Rattle.tables.specs.Checks.{checked}
 use Rattle.acks.specs.Acks.{ack_checks}
-use Rattle.answers.specs.declared.Check.{Check}
 use Rattle.answers.specs.declared.Check.TheVariants.{Passed, Refused}
-use borrow.Author.Rules.{rules}
 use Rattle.acks.proofs.ack_refusal.Goals as goal
 
 pub returns-then-candidate-node : goal.returns-then-candidate-node

@@ -1,6 +1,5 @@
 -- `acks::counted` meets its contract: a win, or the election goes on.
 use mathlib.Core.Path.{sym, ◌∙◌}
-use borrow.Author.Rules.{rules}
 use Rattle.acks.proofs.counted.Goals as goal
 
 pub returns-then-majority : goal.returns-then-majority

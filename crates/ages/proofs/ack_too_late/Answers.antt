@@ -1,6 +1,5 @@
 -- `ages::ack_too_late` meets its contract.
 use Rattle.ages.proofs.Ages.{over_neither, over_twice_lem}
-use borrow.Author.Rules.{rules}
 use Rattle.ages.proofs.ack_too_late.Goals as goal
 
 pub returns-then-age-le2000 : goal.returns-then-age-le2000

@@ -1,6 +1,5 @@
 -- `ages::opening_young` meets its contract.
 use Rattle.ages.proofs.Ages.{under_either, under_fourfold}
-use borrow.Author.Rules.{rules}
 use Rattle.ages.proofs.opening_young.Goals as goal
 
 pub returns-then-age-lt4000 : goal.returns-then-age-lt4000

@@ -1,6 +1,5 @@
 -- `ages::over_twice` meets its contract.
 use Rattle.ages.proofs.Ages.{half_over}
-use borrow.Author.Rules.{rules}
 use Rattle.ages.proofs.over_twice.Goals as goal
 
 pub returns : goal.returns

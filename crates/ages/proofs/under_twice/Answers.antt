@@ -1,6 +1,5 @@
 -- `ages::under_twice` meets its contract.
 use Rattle.ages.proofs.Ages.{under_twice}
-use borrow.Author.Rules.{rules}
 use Rattle.ages.proofs.under_twice.Goals as goal
 
 pub returns : goal.returns

@@ -1,5 +1,4 @@
 -- `answers::number` meets its contract.
-use borrow.Author.Rules.{rules}
 use Rattle.answers.proofs.number.Goals as goal
 
 pub returns-in-Done : goal.returns-in-Done

@@ -1,7 +1,6 @@
 -- `bitmaps::eight` meets its contract: a byte is below 256, so that no sum wraps.
 use native.Mathlib.Omega.{arith}
 use Rattle.bitmaps.proofs.Bytes.{eight_below, word_eight}
-use borrow.Author.Rules.{rules}
 use Rattle.bitmaps.proofs.eight.Goals as goal
 
 pub overflow_cast-result : goal.overflow_cast-result

@@ -1,9 +1,7 @@
 -- `bitmaps::few` meets its contract: the word is that of the bytes from place i on, and at most seven of them have been read, so that one more has room.
 use mathlib.Core.Path.{◌≡◌, sym}
-use Prim.Native.Nat.{◌-◌, ◌*◌, ◌≤◌}
+use Prim.Native.Nat.{◌-◌}
 use native.Mathlib.Omega.{arith}
-use lib.ListN.{length}
-use Rattle.tables.specs.Sets.{claimed, word_of}
 use Rattle.bitmaps.proofs.Bytes.{word_ended, short_fits, word_back}
 use borrow.Author.Rules.{rules}
 use Rattle.bitmaps.proofs.few.Goals as goal

@@ -2,11 +2,9 @@
 use mathlib.Core.Path.{◌≡◌}
 use Prim.Native.Nat.{◌*◌, min}
 use native.Mathlib.Omega.{arith}
-use lib.Pow.{pow_pos}
 use Rattle.tables.specs.Sets.{claimed}
 use Rattle.tables.proofs.Words.{word_low}
 use Rattle.bitmaps.proofs.Bytes.{mask_is}
-use borrow.Author.Rules.{rules}
 use Rattle.bitmaps.proofs.word_at.Goals as goal
 
 pub returns-then-slots-lt64 : goal.returns-then-slots-lt64

@@ -1,7 +1,6 @@
 -- `bitmaps::word_from` meets its contract: past the bitmap's end nothing is claimed.
 use mathlib.Core.Path.{sym}
 use Rattle.bitmaps.proofs.Bytes.{word_ended}
-use borrow.Author.Rules.{rules}
 use Rattle.bitmaps.proofs.word_from.Goals as goal
 
 pub returns-then-k-bitmap : goal.returns-then-k-bitmap

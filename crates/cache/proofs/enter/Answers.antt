@@ -1,5 +1,4 @@
 -- `cache::enter` meets its contract.
-use borrow.Author.Rules.{rules}
 use Rattle.cache.proofs.enter.Goals as goal
 
 pub returns : goal.returns

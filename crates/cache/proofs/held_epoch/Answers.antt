@@ -1,7 +1,6 @@
 -- `cache::held_epoch` meets its contract.
 use mathlib.Core.Path.{sym}
 use borrow.Author.Tests.{le-ltb, lt-ltb}
-use borrow.Author.Rules.{rules}
 use Rattle.cache.specs.Cache.{map_of}
 use Rattle.cache.proofs.Maps.{past_the_end}
 use Rattle.cache.proofs.held_epoch.Goals as goal

@@ -1,6 +1,5 @@
 -- `cache::put_epoch` meets its contract.
 use lib.Seq.{set_out}
-use borrow.Author.Rules.{rules}
 use Rattle.cache.proofs.put_epoch.Goals as goal
 
 pub returns-else-slot-epochs : goal.returns-else-slot-epochs

@@ -1,6 +1,5 @@
 -- `cache::put_owner` meets its contract.
 use lib.Seq.{set_out}
-use borrow.Author.Rules.{rules}
 use Rattle.cache.proofs.put_owner.Goals as goal
 
 pub returns-else-slot-map : goal.returns-else-slot-map

@@ -1,6 +1,5 @@
 -- `cache::wrong_length` meets its contract.
 use borrow.Author.Tests.{eq-eqb, ne_eqb}
-use borrow.Author.Rules.{rules}
 use Rattle.cache.specs.Cache.{wrong_length}
 use Rattle.cache.proofs.wrong_length.Goals as goal
 

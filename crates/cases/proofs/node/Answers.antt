@@ -1,6 +1,5 @@
 -- `cases::node`: the node of the cases, as its ids and roles are set.
 use Rattle.cases.specs.Cases.{cases_node}
-use borrow.Author.Rules.{rules}
 use Rattle.cases.proofs.node.Goals as goal
 
 pub returns : goal.returns

@@ -1,5 +1,4 @@
 -- `changes::arrived` meets its contract.
-use borrow.Author.Rules.{rules}
 use Rattle.changes.proofs.arrived.Goals as goal
 
 pub returns : goal.returns

@@ -1,11 +1,8 @@
 -- `claims::empty` meets its contract: as far as it has been read, nothing is claimed, so the rest decides.
-use mathlib.Core.Path.{◌≡◌, refl, sym, ◌∙◌}
+use mathlib.Core.Path.{◌≡◌}
 use Prim.Native.Nat.{◌-◌, ◌≤◌}
-use native.Mathlib.Omega.{arith}
 use lib.ListN.{length, drop}
 use Rattle.claims.specs.Claims.{empty}
-use Rattle.claims.proofs.Claims.{empty_past, empty_here, empty_ended}
-use borrow.Author.Rules.{rules}
 use Rattle.claims.proofs.empty.Given as goal
 
 abbrev pub invariant-loop-k : goal.invariant-loop-k

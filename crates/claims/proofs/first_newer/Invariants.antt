@@ -1,15 +1,10 @@
 -- `claims::first_newer` meets its contract: a search from the front, from one claimed slot to the next.
-use mathlib.Core.Path.{◌≡◌, refl}
+use mathlib.Core.Path.{◌≡◌}
 use Prim.Native.Nat.{◌-◌, ◌*◌, ◌/◌}
-use native.Mathlib.Omega.{arith}
-use lib.Count.{trailing_le}
 use lib.ListN.{length, get_or}
-use borrow.Author.Tests.{lt-ltb, le-ltb}
-use Rattle.bitmaps.proofs.Scan.{rest_less}
-use Rattle.bitmaps.proofs.Claims.{Reads, in_table, is_claimed_lem, opens, closes, reads_on}
+use Rattle.bitmaps.proofs.Claims.{Reads}
 use Rattle.claims.specs.Claims.{newer_owner}
-use Rattle.claims.proofs.Search.{Come, set_out, arrived, carries, here, not_here}
-use borrow.Author.Rules.{rules}
+use Rattle.claims.proofs.Search.{Come}
 use Rattle.claims.proofs.first_newer.Given as goal
 
 abbrev pub invariant-loop-word : goal.invariant-loop-word

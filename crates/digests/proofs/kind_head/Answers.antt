@@ -1,5 +1,4 @@
 -- `digests::kind_head` meets its contract.
-use borrow.Author.Rules.{rules}
 use Rattle.digests.proofs.kind_head.Goals as goal
 
 pub returns-in-Heartbeat : goal.returns-in-Heartbeat

@@ -1,5 +1,4 @@
 -- `digests::mixed` meets its contract.
-use borrow.Author.Rules.{rules}
 use Rattle.digests.proofs.mixed.Goals as goal
 
 pub returns : goal.returns

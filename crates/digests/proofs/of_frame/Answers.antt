@@ -1,5 +1,4 @@
 -- `digests::of_frame` meets its contract.
-use borrow.Author.Rules.{rules}
 use Rattle.digests.proofs.of_frame.Goals as goal
 
 pub returns : goal.returns

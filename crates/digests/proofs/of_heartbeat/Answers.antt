@@ -1,5 +1,4 @@
 -- `digests::of_heartbeat` meets its contract.
-use borrow.Author.Rules.{rules}
 use Rattle.digests.proofs.of_heartbeat.Goals as goal
 
 pub returns-in-Master : goal.returns-in-Master

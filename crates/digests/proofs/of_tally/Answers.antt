@@ -1,10 +1,9 @@
 -- `digests::of_tally` meets its contract.
-use Prim.Native.Nat.{ℕ, ◌<◌}
+use Prim.Native.Nat.{◌<◌}
 use native.Mathlib.Omega.{arith}
 use Rattle.tables.specs.declared.Found.{Found}
 use Rattle.tables.specs.declared.Found.TheVariants.{Nothing, At}
 use Rattle.digests.specs.Digest.{place}
-use borrow.Author.Rules.{rules}
 use Rattle.digests.proofs.of_tally.Goals as goal
 
 place-small : (z : Found) → place z < 65536

@@ -1,5 +1,4 @@
 -- `digests::place` meets its contract.
-use borrow.Author.Rules.{rules}
 use Rattle.digests.proofs.place.Goals as goal
 
 pub returns-in-At : goal.returns-in-At

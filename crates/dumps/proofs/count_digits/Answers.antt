@@ -2,8 +2,7 @@
 use mathlib.Core.Path.{sym, ◌∙◌}
 use Prim.Native.Nat.{◌-◌}
 use native.Mathlib.Omega.{arith}
-use lib.ListN.{length}
-use Rattle.dumps.proofs.Text.{Counted, space_passed, digit_counted, all_counted}
+use Rattle.dumps.proofs.Text.{space_passed, digit_counted, all_counted}
 use borrow.Author.Rules.{rules}
 use Rattle.dumps.proofs.count_digits.Goals as goal
 

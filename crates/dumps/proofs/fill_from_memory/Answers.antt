@@ -1,8 +1,7 @@
 -- `dumps::fill_from_memory`: below each place the entries are written.
-use mathlib.Core.Path.{◌≡◌, ap₂}
+use mathlib.Core.Path.{ap₂}
 use Prim.Native.Nat.{ℕ, ◌+◌, ◌*◌, ◌-◌}
-use lib.ListN.{length}
-use Rattle.dumps.proofs.Memory.{Written, written_none, write, written_all}
+use Rattle.dumps.proofs.Memory.{written_none, write, written_all}
 use borrow.Author.Rules.{rules}
 use Rattle.dumps.proofs.fill_from_memory.Goals as goal
 

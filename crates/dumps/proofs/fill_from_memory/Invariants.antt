@@ -1,9 +1,8 @@
 -- `dumps::fill_from_memory`: below each place the entries are written.
-use mathlib.Core.Path.{◌≡◌, ap₂}
-use Prim.Native.Nat.{ℕ, ◌+◌, ◌*◌, ◌-◌}
+use mathlib.Core.Path.{◌≡◌}
+use Prim.Native.Nat.{◌-◌}
 use lib.ListN.{length}
-use Rattle.dumps.proofs.Memory.{Written, written_none, write, written_all}
-use borrow.Author.Rules.{rules}
+use Rattle.dumps.proofs.Memory.{Written}
 use Rattle.dumps.proofs.fill_from_memory.Given as goal
 
 abbrev pub invariant-loop-s : goal.invariant-loop-s

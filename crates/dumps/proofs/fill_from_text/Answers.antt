@@ -3,7 +3,7 @@ use mathlib.Core.Path.{◌≡◌, sym, ap, ◌∙◌}
 use Prim.Native.Nat.{◌-◌, ◌/◌, ◌<◌}
 use lib.ListN.{length, get_or}
 use Rattle.hexdigits.specs.Hex.{digit}
-use Rattle.dumps.proofs.Text.{Filling, filling_none, space_left, inside, digit_in, filled, behind}
+use Rattle.dumps.proofs.Text.{filling_none, space_left, inside, digit_in, filled, behind}
 use borrow.Author.Rules.{rules}
 use Rattle.dumps.proofs.fill_from_text.Goals as goal
 

@@ -1,10 +1,8 @@
 -- `dumps::fill_from_text`: the digits before each place are taken in.
-use mathlib.Core.Path.{◌≡◌, sym, ap, ◌∙◌}
-use Prim.Native.Nat.{◌-◌, ◌/◌, ◌<◌}
-use lib.ListN.{length, get_or}
-use Rattle.hexdigits.specs.Hex.{digit}
-use Rattle.dumps.proofs.Text.{Filling, filling_none, space_left, inside, digit_in, filled, behind}
-use borrow.Author.Rules.{rules}
+use mathlib.Core.Path.{◌≡◌}
+use Prim.Native.Nat.{◌-◌}
+use lib.ListN.{length}
+use Rattle.dumps.proofs.Text.{Filling}
 use Rattle.dumps.proofs.fill_from_text.Given as goal
 
 abbrev pub invariant-loop-i : goal.invariant-loop-i

@@ -1,12 +1,9 @@
 -- `dumps::first_odd`: from each place on, the search of the rest is the search of the whole.
-use mathlib.Core.Path.{◌≡◌, refl, sym, ap, ◌∙◌}
+use mathlib.Core.Path.{sym, ap, ◌∙◌}
 use mathlib.Core.Bool.{not}
-use Prim.Native.Nat.{ℕ, ◌-◌}
-use lib.ListN.{length, drop}
-use Rattle.tables.specs.Lists.{first_from}
+use Prim.Native.Nat.{◌-◌}
 use Rattle.tables.proofs.Walks.{first_here, first_past, first_ended}
-use Rattle.dumps.specs.Dumps.{is_text, first_odd}
-use borrow.Author.Rules.{rules}
+use Rattle.dumps.specs.Dumps.{is_text}
 use Rattle.dumps.proofs.first_odd.Goals as goal
 
 pub loop-i-preserved : goal.loop-i-preserved

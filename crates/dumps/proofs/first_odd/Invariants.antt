@@ -1,12 +1,10 @@
 -- `dumps::first_odd`: from each place on, the search of the rest is the search of the whole.
-use mathlib.Core.Path.{◌≡◌, refl, sym, ap, ◌∙◌}
+use mathlib.Core.Path.{◌≡◌}
 use mathlib.Core.Bool.{not}
 use Prim.Native.Nat.{ℕ, ◌-◌}
 use lib.ListN.{length, drop}
 use Rattle.tables.specs.Lists.{first_from}
-use Rattle.tables.proofs.Walks.{first_here, first_past, first_ended}
 use Rattle.dumps.specs.Dumps.{is_text, first_odd}
-use borrow.Author.Rules.{rules}
 use Rattle.dumps.proofs.first_odd.Given as goal
 
 abbrev pub invariant-loop-i : goal.invariant-loop-i

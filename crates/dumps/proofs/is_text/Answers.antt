@@ -1,5 +1,4 @@
 -- `dumps::is_text`: a space, or a digit.
-use borrow.Author.Rules.{rules}
 use Rattle.dumps.proofs.is_text.Goals as goal
 
 pub returns-then-is_space : goal.returns-then-is_space

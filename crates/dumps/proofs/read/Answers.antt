@@ -1,7 +1,6 @@
 -- `dumps::read`: each way out by the form that the input has, and by its length.
 use borrow.Author.Tests.{eq-eqb, ne_eqb}
 use Rattle.dumps.specs.Dumps.{read_into}
-use borrow.Author.Rules.{rules}
 use Rattle.dumps.proofs.read.Goals as goal
 
 pub returns-then-input-ne-BYTES : goal.returns-then-input-ne-BYTES

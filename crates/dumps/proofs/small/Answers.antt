@@ -1,7 +1,6 @@
 -- `dumps::small`: each way out by the tests that led to it.
 use borrow.Author.Tests.{le-leb, lt-leb}
 use Rattle.dumps.specs.Dumps.{small}
-use borrow.Author.Rules.{rules}
 use Rattle.dumps.proofs.small.Goals as goal
 
 pub returns-then-c-lt65 : goal.returns-then-c-lt65

@@ -1,6 +1,4 @@
 -- `engines::answer_digest` meets its contract.
-use Rattle.engines.proofs.Answers.{from, says_nothing}
-use borrow.Author.Rules.{rules}
 use Rattle.engines.proofs.answer_digest.Goals as goal
 
 pub returns-in-Heard : goal.returns-in-Heard

@@ -3,7 +3,6 @@ use mathlib.Core.Path.{ap}
 use Rattle.state.specs.Changes.{with_config}
 use Rattle.state.specs.declared.Role.{Role}
 use Rattle.fresh.specs.Fresh.{newcomer}
-use borrow.Author.Rules.{rules}
 use Rattle.engines.proofs.known_of.Goals as goal
 
 pub returns : goal.returns

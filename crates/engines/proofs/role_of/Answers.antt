@@ -1,6 +1,5 @@
 -- `engines::role_of` meets its contract.
 use Rattle.engines.proofs.Numbers.{replica_of}
-use borrow.Author.Rules.{rules}
 use Rattle.engines.proofs.role_of.Goals as goal
 
 pub returns : goal.returns

@@ -1,12 +1,11 @@
 -- `engines::tell` meets its contract: the numbers are taken from the records, one by one.
-use mathlib.Core.Path.{◌≡◌, refl, sym, ◌∙◌}
+use mathlib.Core.Path.{◌≡◌, refl}
 use Prim.Native.Nat.{◌+◌, ◌-◌}
 use native.Mathlib.Omega.{arith}
-use lib.ListN.{length, length-map}
+use lib.ListN.{length}
 use Rattle.tables.specs.Sizes.{node_room}
 use Rattle.engines.specs.Engines.{config_of, role_number_of}
-use Rattle.engines.proofs.Numbers.{Taken, taken_none, taken_more, taken_all, taken_behind}
-use borrow.Author.Rules.{rules}
+use Rattle.engines.proofs.Numbers.{taken_none, taken_more, taken_all, taken_behind}
 use Rattle.engines.proofs.tell.Goals as goal
 
 pub loop-k-init : goal.loop-k-init

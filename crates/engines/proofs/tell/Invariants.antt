@@ -1,12 +1,8 @@
 -- `engines::tell` meets its contract: the numbers are taken from the records, one by one.
-use mathlib.Core.Path.{◌≡◌, refl, sym, ◌∙◌}
 use Prim.Native.Nat.{◌+◌, ◌-◌}
-use native.Mathlib.Omega.{arith}
-use lib.ListN.{length, length-map}
 use Rattle.tables.specs.Sizes.{node_room}
 use Rattle.engines.specs.Engines.{config_of, role_number_of}
-use Rattle.engines.proofs.Numbers.{Taken, taken_none, taken_more, taken_all, taken_behind}
-use borrow.Author.Rules.{rules}
+use Rattle.engines.proofs.Numbers.{Taken}
 use Rattle.engines.proofs.tell.Given as goal
 
 abbrev pub invariant-loop-k : goal.invariant-loop-k

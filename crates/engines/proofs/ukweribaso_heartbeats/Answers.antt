@@ -1,8 +1,7 @@
 -- `engines::ukweribaso_heartbeats`: what is left is the heartbeat so many times more.
 use mathlib.Core.Path.{refl, sym, ap, ◌∙◌}
-use Rattle.heartbeats.specs.Heartbeats.{heartbeat}
 use Rattle.engines.specs.Engines.{digested}
-use Rattle.engines.proofs.Again.{Left, more, none}
+use Rattle.engines.proofs.Again.{more, none}
 use borrow.Author.Rules.{rules}
 use Rattle.engines.proofs.ukweribaso_heartbeats.Goals as goal
 

@@ -1,9 +1,6 @@
 -- `engines::ukweribaso_heartbeats`: what is left is the heartbeat so many times more.
-use mathlib.Core.Path.{refl, sym, ap, ◌∙◌}
 use Rattle.heartbeats.specs.Heartbeats.{heartbeat}
-use Rattle.engines.specs.Engines.{digested}
-use Rattle.engines.proofs.Again.{Left, more, none}
-use borrow.Author.Rules.{rules}
+use Rattle.engines.proofs.Again.{Left}
 use Rattle.engines.proofs.ukweribaso_heartbeats.Given as goal
 
 abbrev pub invariant-loop-left : goal.invariant-loop-left

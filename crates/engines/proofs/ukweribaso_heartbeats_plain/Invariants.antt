@@ -1,9 +1,6 @@
 -- `engines::ukweribaso_heartbeats_plain`: what is left is the heartbeat so many times more.
-use mathlib.Core.Path.{refl, sym, ap, ◌∙◌}
 use Rattle.slotwise.specs.Slotwise.{plain_heartbeat}
-use Rattle.engines.specs.Engines.{digested}
-use Rattle.engines.proofs.Again.{Left, more, none}
-use borrow.Author.Rules.{rules}
+use Rattle.engines.proofs.Again.{Left}
 use Rattle.engines.proofs.ukweribaso_heartbeats_plain.Given as goal
 
 abbrev pub invariant-loop-rest : goal.invariant-loop-rest

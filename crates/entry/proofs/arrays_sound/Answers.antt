@@ -1,9 +1,9 @@
 -- `entry::arrays_sound` meets its contract: each early answer cites the test that failed.
-use mathlib.Core.Path.{◌≡◌, refl, sym, ap, ◌∙◌}
-use mathlib.Core.Bool.{true, false, cond}
-use Prim.Native.Nat.{ℕ, ◌+◌, ◌-◌, ◌≤◌, ◌<◌}
+use mathlib.Core.Path.{◌≡◌, refl, sym, ◌∙◌}
+use mathlib.Core.Bool.{true, false}
+use Prim.Native.Nat.{ℕ, ◌-◌, ◌≤◌}
 use native.Mathlib.Omega.{arith}
-use lib.ListN.{length, get_or, length-map}
+use lib.ListN.{length, get_or}
 use borrow.Author.Tests.{lt-ltb, le-leb, eq-eqb, leb-true}
 use borrow.Author.Rules.{rules}
 use Rattle.tables.specs.Below.{every}
@@ -11,8 +11,8 @@ use Rattle.tables.proofs.Checks.{fails, part}
 use Rattle.tables.proofs.Below.{every_fails, every_more}
 use Rattle.state.specs.Node.{record_at}
 use Rattle.state.specs.declared.Node.{Node}
-use Rattle.soundness.specs.Sound.{sound, sound_checks, bounds_kept, bound_checks, arrays_whole, ids_ascend, id_in_order, records_sound, record_sound_at, election_sound, own_clear, marks_sound, mark_sound_at, marks_ascend}
-use Rattle.entry.proofs.Arrays.{Passed, slot_fits, own_fails, both_hold, passed_none, passed_more, passed_low, passed_all}
+use Rattle.soundness.specs.Sound.{sound, sound_checks, bounds_kept, bound_checks, arrays_whole, ids_ascend, id_in_order, records_sound, record_sound_at, election_sound, own_clear, marks_sound, mark_sound_at}
+use Rattle.entry.proofs.Arrays.{slot_fits, own_fails, both_hold, passed_none, passed_more, passed_low, passed_all}
 use Rattle.entry.proofs.arrays_sound.Goals as goal
 
 -- what the arrays' types say

@@ -1,6 +1,4 @@
 -- `entry::checks` meets its contract.
-use mathlib.Core.Path.{sym, ◌∙◌}
-use borrow.Author.Rules.{rules}
 use Rattle.entry.proofs.checks.Goals as goal
 
 pub returns-else-lengths : goal.returns-else-lengths

@@ -1,6 +1,5 @@
 -- `entry::own_sound` meets its contract.
 use mathlib.Core.Path.{sym, ◌∙◌}
-use borrow.Author.Rules.{rules}
 use Rattle.entry.proofs.own_sound.Goals as goal
 
 pub returns-then-own_clear : goal.returns-then-own_clear

@@ -1,7 +1,6 @@
 -- `entry::sound` meets its contract: each early answer cites the test that failed.
 use mathlib.Core.Path.{sym, ◌∙◌}
 use borrow.Author.Tests.{le-ltb, lt-leb}
-use borrow.Author.Rules.{rules}
 use Rattle.tables.proofs.Checks.{fails}
 use Rattle.soundness.specs.Sound.{sound, sound_checks}
 use Rattle.entry.proofs.sound.Goals as goal

@@ -1,5 +1,4 @@
 -- `exports::bitmap_of` meets its contract.
-use borrow.Author.Rules.{rules}
 use Rattle.exports.proofs.bitmap_of.Goals as goal
 
 pub returns-in-Short : goal.returns-in-Short

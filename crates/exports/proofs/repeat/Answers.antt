@@ -1,8 +1,5 @@
 -- `exports::repeat`: what is left is the line so many times more.
-use mathlib.Core.Path.{◌≡◌, refl, sym, ◌∙◌}
-use lib.ListN.{length}
-use Rattle.state.specs.Outcomes.{Stepped}
-use Rattle.exports.specs.Steps.{again}
+use mathlib.Core.Path.{refl, sym, ◌∙◌}
 use Rattle.exports.proofs.Steps.{more, none}
 use borrow.Author.Rules.{rules}
 use Rattle.exports.proofs.repeat.Goals as goal

@@ -1,10 +1,7 @@
 -- `exports::repeat`: what is left is the line so many times more.
-use mathlib.Core.Path.{◌≡◌, refl, sym, ◌∙◌}
+use mathlib.Core.Path.{◌≡◌}
 use lib.ListN.{length}
-use Rattle.state.specs.Outcomes.{Stepped}
 use Rattle.exports.specs.Steps.{again}
-use Rattle.exports.proofs.Steps.{more, none}
-use borrow.Author.Rules.{rules}
 use Rattle.exports.proofs.repeat.Given as goal
 
 abbrev pub invariant-loop-left : goal.invariant-loop-left

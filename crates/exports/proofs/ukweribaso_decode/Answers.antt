@@ -1,5 +1,4 @@
 -- `exports::ukweribaso_decode` meets its contract.
-use borrow.Author.Rules.{rules}
 use Rattle.exports.proofs.ukweribaso_decode.Goals as goal
 
 pub returns-in-NotAFrame : goal.returns-in-NotAFrame

@@ -1,5 +1,4 @@
 -- `exports::ukweribaso_ranges` meets its contract.
-use borrow.Author.Rules.{rules}
 use Rattle.exports.proofs.ukweribaso_ranges.Goals as goal
 
 pub returns : goal.returns

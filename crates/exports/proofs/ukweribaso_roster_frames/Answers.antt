@@ -1,5 +1,4 @@
 -- `exports::ukweribaso_roster_frames` meets its contract.
-use borrow.Author.Rules.{rules}
 use Rattle.exports.proofs.ukweribaso_roster_frames.Goals as goal
 
 pub returns : goal.returns

@@ -1,7 +1,6 @@
 -- `failure::flag_if_signalled` meets its contract.
 use Rattle.failure.specs.Failure.{flag_if_signalled}
 use Rattle.failure.specs.Failure.{most_signal}
-use borrow.Author.Rules.{rules}
 use Rattle.failure.proofs.flag_if_signalled.Goals as goal
 
 pub returns-else-is_pfail : goal.returns-else-is_pfail

@@ -1,7 +1,6 @@
 -- `failure::is_recent` meets its contract.
 use borrow.Author.Tests.{le-leb, lt-leb, ne_eqb}
 use Rattle.failure.specs.Failure.{recent}
-use borrow.Author.Rules.{rules}
 use Rattle.failure.proofs.is_recent.Goals as goal
 
 pub returns-then-stored-eq0 : goal.returns-then-stored-eq0

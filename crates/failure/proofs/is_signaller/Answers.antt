@@ -1,7 +1,6 @@
 -- `failure::is_signaller` meets its contract.
 use borrow.Author.Tests.{eq-eqb, le-ltb, lt-ltb, ne_eqb}
 use Rattle.failure.specs.Failure.{signals}
-use borrow.Author.Rules.{rules}
 use Rattle.failure.proofs.is_signaller.Goals as goal
 
 pub returns-else-k-node : goal.returns-else-k-node

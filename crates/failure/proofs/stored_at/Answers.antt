@@ -1,7 +1,6 @@
 -- `failure::stored_at` meets its contract.
 use mathlib.Core.Path.{sym}
 use lib.ListN.{get_or-eq_default}
-use borrow.Author.Rules.{rules}
 use Rattle.failure.proofs.stored_at.Goals as goal
 
 pub returns : goal.returns

@@ -1,5 +1,4 @@
 -- `failure::with_master` meets its contract.
-use borrow.Author.Rules.{rules}
 use Rattle.failure.proofs.with_master.Goals as goal
 
 pub returns-then-is_master : goal.returns-then-is_master

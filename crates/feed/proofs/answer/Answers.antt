@@ -1,11 +1,10 @@
 -- `feed::answer`: what is shown stands within what was lent or kept.
-use mathlib.Core.Path.{sym, ◌∙◌}
+use mathlib.Core.Path.{sym}
 use Prim.Native.Nat.{◌≤◌}
 use native.Mathlib.Omega.{arith}
-use lib.ListN.{length, length-map}
+use lib.ListN.{length}
 use lib.Seq.{length-take-le}
-use Rattle.feed.proofs.Lines.{shown_le, shown_within, whole, begun}
-use borrow.Author.Rules.{rules}
+use Rattle.feed.proofs.Lines.{shown_within, whole, begun}
 use Rattle.feed.proofs.answer.Goals as goal
 
 pub slice_bounds-frame-end : goal.slice_bounds-frame-end

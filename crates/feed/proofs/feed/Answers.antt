@@ -7,7 +7,6 @@ use lib.Seq.{length-take-le}
 use Rattle.tables.proofs.Walks.{first_within}
 use Rattle.scraps.specs.Scraps.{takes}
 use Rattle.feed.specs.Feed.{feeds}
-use borrow.Author.Rules.{rules}
 use Rattle.feed.proofs.feed.Goals as goal
 
 pub overflow_add-used : goal.overflow_add-used

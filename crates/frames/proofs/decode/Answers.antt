@@ -1,6 +1,5 @@
 -- `frames::decode` meets its contract.
 use Rattle.frames.specs.Frames.{frame_of}
-use borrow.Author.Rules.{rules}
 use Rattle.frames.proofs.decode.Goals as goal
 
 pub returns-else-all_digits : goal.returns-else-all_digits

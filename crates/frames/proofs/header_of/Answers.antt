@@ -1,5 +1,4 @@
 -- `frames::header_of` meets its contract.
-use borrow.Author.Rules.{rules}
 use Rattle.frames.proofs.header_of.Goals as goal
 
 pub returns-in-Short : goal.returns-in-Short

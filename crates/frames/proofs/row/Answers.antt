@@ -1,6 +1,5 @@
 -- `frames::row` meets its contract.
 use borrow.Author.Tests.{ne_eqb}
-use borrow.Author.Rules.{rules}
 use Rattle.frames.proofs.row.Goals as goal
 
 pub returns-then-kind-eq1 : goal.returns-then-kind-eq1

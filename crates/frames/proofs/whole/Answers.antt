@@ -1,6 +1,5 @@
 -- `frames::whole` meets its contract.
 use borrow.Author.Tests.{eq-eqb, ne_eqb}
-use borrow.Author.Rules.{rules}
 use Rattle.frames.proofs.whole.Goals as goal
 
 pub returns-then-line-digits_of : goal.returns-then-line-digits_of

@@ -1,8 +1,8 @@
 -- `fresh::ids` meets its contract: the numbers below k have their ids.
 use mathlib.Core.Path.{◌≡◌, refl, sym, ap, ◌∙◌}
-use Prim.Native.Nat.{◌-◌, ◌≤◌}
+use Prim.Native.Nat.{◌-◌}
 use native.Mathlib.Omega.{arith}
-use lib.ListN.{length, length-set, replicate}
+use lib.ListN.{length-set, replicate}
 use Rattle.tables.specs.Below.{in_turn}
 use Rattle.tables.proofs.Below.{in_turn_more}
 use Rattle.fresh.specs.Fresh.{ids_of}

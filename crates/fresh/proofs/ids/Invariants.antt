@@ -1,12 +1,8 @@
 -- `fresh::ids` meets its contract: the numbers below k have their ids.
-use mathlib.Core.Path.{◌≡◌, refl, sym, ap, ◌∙◌}
+use mathlib.Core.Path.{◌≡◌}
 use Prim.Native.Nat.{◌-◌, ◌≤◌}
-use native.Mathlib.Omega.{arith}
-use lib.ListN.{length, length-set, replicate}
-use Rattle.tables.specs.Below.{in_turn}
-use Rattle.tables.proofs.Below.{in_turn_more}
+use lib.ListN.{length}
 use Rattle.fresh.specs.Fresh.{ids_of}
-use borrow.Author.Rules.{rules}
 use Rattle.fresh.proofs.ids.Given as goal
 
 abbrev pub invariant-loop-k : goal.invariant-loop-k

@@ -1,9 +1,9 @@
 -- `fresh::node` meets its contract: the records are made from the roles, one by one.
-use mathlib.Core.Path.{◌≡◌, refl, ◌∙◌}
-use mathlib.Core.List.{◌++◌, map, append-nil}
-use Prim.Native.Nat.{◌+◌, ◌-◌, ◌≤◌, ◌<◌}
+use mathlib.Core.Path.{◌≡◌, refl}
+use mathlib.Core.List.{map, append-nil}
+use Prim.Native.Nat.{◌-◌, ◌≤◌, ◌<◌}
 use native.Mathlib.Omega.{arith}
-use lib.ListN.{length, take, drop, length-set, length-map, get_or-map, drop_of_length-le}
+use lib.ListN.{length, length-set, length-map, get_or-map, drop_of_length-le}
 use lib.Seq.{take_all}
 use Rattle.fresh.specs.Fresh.{newcomer, fresh_node}
 use Rattle.state.specs.declared.Role.TheVariants.{Master}

@@ -1,14 +1,10 @@
 -- `fresh::node` meets its contract: the records are made from the roles, one by one.
-use mathlib.Core.Path.{◌≡◌, refl, ◌∙◌}
-use mathlib.Core.List.{◌++◌, map, append-nil}
-use Prim.Native.Nat.{◌+◌, ◌-◌, ◌≤◌, ◌<◌}
-use lib.ListN.{length, take, drop, length-set, length-map, get_or-map, drop_of_length-le}
-use lib.Seq.{take_all}
-use Rattle.fresh.specs.Fresh.{newcomer, fresh_node}
-use Rattle.state.specs.declared.Role.TheVariants.{Master}
-use Rattle.tables.proofs.Lists.{store}
+use mathlib.Core.Path.{◌≡◌}
+use mathlib.Core.List.{◌++◌, map}
+use Prim.Native.Nat.{◌+◌, ◌-◌, ◌≤◌}
+use lib.ListN.{length, take, drop}
+use Rattle.fresh.specs.Fresh.{newcomer}
 use Rattle.tables.specs.Sizes.{node_room}
-use borrow.Author.Rules.{rules}
 use Rattle.fresh.proofs.node.Given as goal
 
 abbrev pub invariant-loop-k : goal.invariant-loop-k

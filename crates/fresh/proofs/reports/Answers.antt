@@ -1,8 +1,6 @@
 -- `fresh::reports` meets its contract: the list is filled from the front.
 use Prim.Native.Nat.{◌-◌}
-use lib.ListN.{length}
-use Rattle.tables.proofs.Lists.{Filled, filled_none, filled_more, filled_all}
-use borrow.Author.Rules.{rules}
+use Rattle.tables.proofs.Lists.{filled_none, filled_more, filled_all}
 use Rattle.fresh.proofs.reports.Goals as goal
 
 pub loop-i-init : goal.loop-i-init

@@ -1,8 +1,7 @@
 -- `fresh::reports` meets its contract: the list is filled from the front.
 use Prim.Native.Nat.{◌-◌}
 use lib.ListN.{length}
-use Rattle.tables.proofs.Lists.{Filled, filled_none, filled_more, filled_all}
-use borrow.Author.Rules.{rules}
+use Rattle.tables.proofs.Lists.{Filled}
 use Rattle.fresh.proofs.reports.Given as goal
 
 abbrev pub invariant-loop-i : goal.invariant-loop-i

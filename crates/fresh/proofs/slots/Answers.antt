@@ -1,9 +1,6 @@
 -- `fresh::slots` meets its contract: the list is filled from the front.
 use Prim.Native.Nat.{◌-◌}
-use lib.ListN.{length}
-use Rattle.tables.proofs.Lists.{Filled, filled_none, filled_more, filled_all}
-use Rattle.tables.specs.Sizes.{unowned}
-use borrow.Author.Rules.{rules}
+use Rattle.tables.proofs.Lists.{filled_none, filled_more, filled_all}
 use Rattle.fresh.proofs.slots.Goals as goal
 
 pub loop-s-init : goal.loop-s-init

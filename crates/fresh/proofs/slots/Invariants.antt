@@ -1,9 +1,8 @@
 -- `fresh::slots` meets its contract: the list is filled from the front.
 use Prim.Native.Nat.{◌-◌}
 use lib.ListN.{length}
-use Rattle.tables.proofs.Lists.{Filled, filled_none, filled_more, filled_all}
+use Rattle.tables.proofs.Lists.{Filled}
 use Rattle.tables.specs.Sizes.{unowned}
-use borrow.Author.Rules.{rules}
 use Rattle.fresh.proofs.slots.Given as goal
 
 abbrev pub invariant-loop-s : goal.invariant-loop-s

@@ -1,7 +1,6 @@
 -- `gateway::ask` meets its contract: routing's promise, taken.
 use mathlib.Core.Path.{◌∙◌}
 use Rattle.gateway.specs.Gateway.{asked}
-use borrow.Author.Rules.{rules}
 use Rattle.gateway.proofs.ask.Goals as goal
 
 pub returns : goal.returns

@@ -1,7 +1,6 @@
 -- `gateway::first_stage` meets its contract.
 use borrow.Author.Tests.{lt-ltb, le-ltb}
 use mathlib.Core.Path.{sym, ◌∙◌}
-use borrow.Author.Rules.{rules}
 use Rattle.gateway.proofs.first_stage.Goals as goal
 
 pub returns-then-wrong_length : goal.returns-then-wrong_length

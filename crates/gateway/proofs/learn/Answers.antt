@@ -1,5 +1,4 @@
 -- `gateway::learn` meets its contract.
-use borrow.Author.Rules.{rules}
 use Rattle.gateway.proofs.learn.Goals as goal
 
 pub returns-in-Nothing : goal.returns-in-Nothing

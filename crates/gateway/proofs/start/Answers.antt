@@ -1,6 +1,5 @@
 -- `gateway::start` meets its contract.
 use Rattle.gateway.specs.Gateway.{started}
-use borrow.Author.Rules.{rules}
 use Rattle.gateway.proofs.start.Goals as goal
 
 pub returns : goal.returns

@@ -4,7 +4,6 @@ use Rattle.lookups.specs.Keys.{slot_of}
 use Rattle.cache.specs.Cache.{map_of, wrong_length, entry_at, held_epoch}
 use Rattle.gateway.specs.Gateway.{taken}
 use Rattle.gateway.proofs.Turns.{named_turn}
-use borrow.Author.Rules.{rules}
 use Rattle.gateway.proofs.take.Goals as goal
 
 pub returns : goal.returns

@@ -5,7 +5,6 @@ use Rattle.lookups.specs.Keys.{slot_of}
 use Rattle.cache.specs.Cache.{map_of, entry_at, held_epoch}
 use Rattle.gateway.specs.Gateway.{turn}
 use Rattle.gateway.proofs.Turns.{held_named}
-use borrow.Author.Rules.{rules}
 use Rattle.gateway.proofs.turn.Goals as goal
 
 pub returns-then-wrong_length : goal.returns-then-wrong_length

@@ -1,5 +1,4 @@
 -- `heartbeats::heard_of` meets its contract.
-use borrow.Author.Rules.{rules}
 use Rattle.heartbeats.proofs.heard_of.Goals as goal
 
 pub returns-in-Replica : goal.returns-in-Replica

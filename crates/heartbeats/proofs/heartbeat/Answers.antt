@@ -1,13 +1,12 @@
 -- `heartbeats::heartbeat` meets its contract: a master's frame, and a replica's.
-use mathlib.Core.Path.{◌≡◌, refl, sym, ◌∙◌}
+use mathlib.Core.Path.{◌≡◌, refl}
 use Prim.Native.Nat.{◌<◌}
 use native.Mathlib.Omega.{arith}
-use lib.ListN.{length, length-map}
+use lib.ListN.{length}
 use Rattle.tables.specs.Sizes.{node_room}
 use Rattle.state.specs.Changes.{with_records}
 use Rattle.records.proofs.Known.{place_inside}
 use Rattle.heartbeats.proofs.Steps.{sender_changed, replica_heard}
-use borrow.Author.Rules.{rules}
 use Rattle.heartbeats.proofs.heartbeat.Goals as goal
 
 pub offset_bounds-next-from : goal.offset_bounds-next-from

@@ -2,7 +2,6 @@
 use native.Mathlib.Omega.{arith}
 use Prim.Native.Nat.{◌/◌, ◌%◌}
 use Rattle.hexdigits.proofs.Digits.{digit_lt, two_by_sum}
-use borrow.Author.Rules.{rules}
 use Rattle.hexbytes.proofs.byte_of.Goals as goal
 
 pub overflow_cast-result : goal.overflow_cast-result

@@ -2,7 +2,6 @@
 use mathlib.Core.Path.{sym, ◌∙◌}
 use native.Mathlib.Omega.{arith}
 use Rattle.hexdigits.proofs.Bytes.{bytes_of_part}
-use borrow.Author.Rules.{rules}
 use Rattle.hexbytes.proofs.bytes_at.Goals as goal
 
 pub fill-requires : goal.fill-requires

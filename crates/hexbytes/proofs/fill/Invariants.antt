@@ -1,13 +1,9 @@
 -- `hexbytes::fill` meets its contract.
-use mathlib.Core.Path.{◌≡◌, refl, ◌∙◌}
+use mathlib.Core.Path.{◌≡◌}
 use mathlib.Core.List.{◌++◌}
 use Prim.Native.Nat.{◌-◌, ◌≤◌}
-use native.Mathlib.Omega.{arith}
-use native.Mathlib.Nat.{zero-add}
-use lib.ListN.{length, drop, length-set}
+use lib.ListN.{length, drop}
 use Rattle.hexdigits.specs.Hex.{bytes_at}
-use Rattle.hexdigits.proofs.Bytes.{pair_digits, more_bytes, all_bytes}
-use borrow.Author.Rules.{rules}
 use Rattle.hexbytes.proofs.fill.Given as goal
 
 abbrev pub invariant-loop-i : goal.invariant-loop-i

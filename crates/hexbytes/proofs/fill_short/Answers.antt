@@ -1,9 +1,8 @@
 -- `hexbytes::fill_short` meets its contract.
-use mathlib.Core.Path.{◌≡◌, refl, ◌∙◌}
-use mathlib.Core.List.{◌++◌}
-use Prim.Native.Nat.{◌+◌, ◌-◌, ◌≤◌}
+use mathlib.Core.Path.{refl, ◌∙◌}
+use Prim.Native.Nat.{◌-◌}
 use native.Mathlib.Omega.{arith}
-use lib.ListN.{length, drop, length-set}
+use lib.ListN.{length-set}
 use Rattle.hexdigits.specs.Hex.{bytes_at}
 use Rattle.hexdigits.proofs.Bytes.{more_bytes, all_bytes}
 use borrow.Author.Rules.{rules}

@@ -1,12 +1,9 @@
 -- `hexbytes::fill_short` meets its contract.
-use mathlib.Core.Path.{◌≡◌, refl, ◌∙◌}
+use mathlib.Core.Path.{◌≡◌}
 use mathlib.Core.List.{◌++◌}
 use Prim.Native.Nat.{◌+◌, ◌-◌, ◌≤◌}
-use native.Mathlib.Omega.{arith}
-use lib.ListN.{length, drop, length-set}
+use lib.ListN.{length, drop}
 use Rattle.hexdigits.specs.Hex.{bytes_at}
-use Rattle.hexdigits.proofs.Bytes.{more_bytes, all_bytes}
-use borrow.Author.Rules.{rules}
 use Rattle.hexbytes.proofs.fill_short.Given as goal
 
 abbrev pub invariant-loop-k : goal.invariant-loop-k

@@ -1,7 +1,6 @@
 -- `hexbytes::pair_at` meets its contract.
 use native.Mathlib.Omega.{arith}
 use Prim.Native.Nat.{◌+◌, ◌*◌}
-use borrow.Author.Rules.{rules}
 use Rattle.hexbytes.proofs.pair_at.Goals as goal
 
 pub overflow_cast-result : goal.overflow_cast-result

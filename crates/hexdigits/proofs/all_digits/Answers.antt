@@ -1,9 +1,6 @@
 -- `hexdigits::all_digits` meets its contract.
-use mathlib.Core.Path.{◌≡◌, refl}
-use mathlib.Core.Bool.{◌&&◌}
-use Prim.Native.Nat.{◌-◌, ◌≤◌}
-use lib.ListN.{length, drop}
-use Rattle.hexdigits.specs.Hex.{all_digits}
+use mathlib.Core.Path.{refl}
+use Prim.Native.Nat.{◌-◌}
 use Rattle.hexdigits.proofs.Digits.{one_more, looked_at_all}
 use borrow.Author.Rules.{rules}
 use Rattle.hexdigits.proofs.all_digits.Goals as goal

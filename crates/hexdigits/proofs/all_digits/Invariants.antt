@@ -1,11 +1,9 @@
 -- `hexdigits::all_digits` meets its contract.
-use mathlib.Core.Path.{◌≡◌, refl}
+use mathlib.Core.Path.{◌≡◌}
 use mathlib.Core.Bool.{◌&&◌}
 use Prim.Native.Nat.{◌-◌, ◌≤◌}
 use lib.ListN.{length, drop}
 use Rattle.hexdigits.specs.Hex.{all_digits}
-use Rattle.hexdigits.proofs.Digits.{one_more, looked_at_all}
-use borrow.Author.Rules.{rules}
 use Rattle.hexdigits.proofs.all_digits.Given as goal
 
 abbrev pub invariant-loop-i : goal.invariant-loop-i

@@ -1,5 +1,4 @@
 -- `hexdigits::byte_after` meets its contract.
-use mathlib.Core.Path.{◌≡◌}
 use native.Mathlib.Omega.{arith}
 use Rattle.hexdigits.specs.Hex.{byte_at}
 use Rattle.hexdigits.proofs.Bytes.{byte_past}

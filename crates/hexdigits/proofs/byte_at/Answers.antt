@@ -1,6 +1,5 @@
 -- `hexdigits::byte_at` meets its contract.
 use native.Mathlib.Nat.{add-zero}
-use borrow.Author.Rules.{rules}
 use Rattle.hexdigits.proofs.byte_at.Goals as goal
 
 pub returns : goal.returns

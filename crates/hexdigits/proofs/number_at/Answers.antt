@@ -1,6 +1,6 @@
 -- `hexdigits::number_at` meets its contract.
 use mathlib.Core.Path.{◌≡◌, refl, ◌∙◌}
-use Prim.Native.Nat.{◌+◌, ◌-◌, ◌≤◌}
+use Prim.Native.Nat.{◌+◌, ◌-◌}
 use native.Mathlib.Omega.{arith}
 use Rattle.hexdigits.specs.Hex.{number_at}
 use Rattle.hexdigits.proofs.Bytes.{byte_lt, room, one_more}

@@ -1,10 +1,7 @@
 -- `hexdigits::number_at` meets its contract.
-use mathlib.Core.Path.{◌≡◌, refl, ◌∙◌}
-use Prim.Native.Nat.{◌+◌, ◌-◌, ◌≤◌}
-use native.Mathlib.Omega.{arith}
+use mathlib.Core.Path.{◌≡◌}
+use Prim.Native.Nat.{◌-◌, ◌≤◌}
 use Rattle.hexdigits.specs.Hex.{number_at}
-use Rattle.hexdigits.proofs.Bytes.{byte_lt, room, one_more}
-use borrow.Author.Rules.{rules}
 use Rattle.hexdigits.proofs.number_at.Given as goal
 
 abbrev pub invariant-loop-k : goal.invariant-loop-k

@@ -1,7 +1,6 @@
 -- `hexout::digit_of` meets its contract.
 use borrow.Author.Tests.{lt-ltb, le-ltb}
 use Rattle.hexdigits.specs.Hex.{character}
-use borrow.Author.Rules.{rules}
 use Rattle.hexout.proofs.digit_of.Goals as goal
 
 pub returns-then-value-lt10 : goal.returns-then-value-lt10

@@ -1,7 +1,6 @@
 -- `hexout::put` meets its contract.
 use native.Mathlib.Omega.{arith}
 use Rattle.hexdigits.proofs.Over.{over_one, over_past}
-use borrow.Author.Rules.{rules}
 use Rattle.hexout.proofs.put.Goals as goal
 
 pub returns-then-out-i : goal.returns-then-out-i

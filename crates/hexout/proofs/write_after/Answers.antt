@@ -2,7 +2,6 @@
 use mathlib.Core.Path.{◌∙◌}
 use Rattle.hexdigits.specs.Hex.{hex}
 use Rattle.hexdigits.proofs.Over.{two_written}
-use borrow.Author.Rules.{rules}
 use Rattle.hexout.proofs.write_after.Goals as goal
 
 pub returns : goal.returns

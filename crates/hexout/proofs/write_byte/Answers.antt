@@ -1,6 +1,5 @@
 -- `hexout::write_byte` meets its contract.
 use native.Mathlib.Nat.{add-zero}
-use borrow.Author.Rules.{rules}
 use Rattle.hexout.proofs.write_byte.Goals as goal
 
 pub returns : goal.returns

@@ -1,8 +1,7 @@
 -- `hexout::write_number` meets its contract.
 use mathlib.Core.Path.{◌≡◌, refl, sym, subst, ◌∙◌}
-use Prim.Native.Nat.{ℕ, suc, ◌-◌, ◌≤◌}
+use Prim.Native.Nat.{ℕ, suc, ◌-◌}
 use native.Mathlib.Omega.{arith}
-use lib.ListN.{length}
 use Rattle.hexdigits.specs.Hex.{hex, bytes_of, over}
 use Rattle.hexdigits.proofs.Over.{over_nothing, length_over, last_written}
 use borrow.Author.Rules.{rules}

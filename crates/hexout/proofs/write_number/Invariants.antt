@@ -1,11 +1,8 @@
 -- `hexout::write_number` meets its contract.
-use mathlib.Core.Path.{◌≡◌, refl, sym, subst, ◌∙◌}
-use Prim.Native.Nat.{ℕ, suc, ◌-◌, ◌≤◌}
-use native.Mathlib.Omega.{arith}
+use mathlib.Core.Path.{◌≡◌}
+use Prim.Native.Nat.{◌-◌, ◌≤◌}
 use lib.ListN.{length}
 use Rattle.hexdigits.specs.Hex.{hex, bytes_of, over}
-use Rattle.hexdigits.proofs.Over.{over_nothing, length_over, last_written}
-use borrow.Author.Rules.{rules}
 use Rattle.hexout.proofs.write_number.Given as goal
 
 abbrev pub invariant-loop-k : goal.invariant-loop-k

@@ -1,6 +1,5 @@
 -- `kinds::by_kind` meets its contract.
 use Rattle.kinds.specs.Kinds.{on_kind}
-use borrow.Author.Rules.{rules}
 use Rattle.kinds.proofs.by_kind.Goals as goal
 
 pub returns-in-Heartbeat : goal.returns-in-Heartbeat

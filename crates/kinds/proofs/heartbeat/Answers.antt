@@ -2,7 +2,6 @@
 use mathlib.Core.Path.{sym, ap, ◌∙◌}
 use lib.ListN.{length}
 use Rattle.frames.proofs.Claims.{bitmap_long}
-use borrow.Author.Rules.{rules}
 use Rattle.kinds.proofs.heartbeat.Goals as goal
 
 pub slice_bounds-heartbeat-end : goal.slice_bounds-heartbeat-end

@@ -2,7 +2,6 @@
 use mathlib.Core.Path.{sym, ap, ◌∙◌}
 use lib.ListN.{length}
 use Rattle.frames.proofs.Claims.{bitmap_long}
-use borrow.Author.Rules.{rules}
 use Rattle.kinds.proofs.request.Goals as goal
 
 pub slice_bounds-request-end : goal.slice_bounds-request-end

@@ -1,11 +1,8 @@
 -- `listing::count`: what was counted, and the ranges from the slot on.
-use mathlib.Core.Path.{◌≡◌, sym, ◌∙◌}
-use Prim.Native.Nat.{ℕ, ◌+◌, ◌-◌, ◌≤◌, ◌<◌}
-use native.Mathlib.Omega.{arith}
+use mathlib.Core.Path.{◌≡◌}
+use Prim.Native.Nat.{◌+◌, ◌-◌, ◌≤◌, ◌<◌}
 use lib.ListN.{length, drop}
 use Rattle.listing.specs.Listing.{ranges_from, listing}
-use Rattle.listing.proofs.Stretches.{counting, counting_last}
-use borrow.Author.Rules.{rules}
 use Rattle.listing.proofs.count.Given as goal
 
 abbrev pub invariant-loop-s : goal.invariant-loop-s

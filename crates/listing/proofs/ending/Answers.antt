@@ -1,7 +1,6 @@
 -- `listing::ending`: two tests.
 use native.Mathlib.Omega.{arith}
 use borrow.Author.Tests.{lt-ltb, le-ltb, eq-eqb, ne_eqb}
-use borrow.Author.Rules.{rules}
 use Rattle.listing.proofs.ending.Goals as goal
 
 pub returns-then-owner-size : goal.returns-then-owner-size

@@ -1,12 +1,8 @@
 -- `listing::list`: two checks, and then the ranges.
-use mathlib.Core.Path.{◌≡◌, sym, ap, ◌∙◌}
-use Prim.Native.Nat.{◌≤◌}
 use native.Mathlib.Omega.{arith}
-use lib.ListN.{length}
 use borrow.Author.Tests.{eq-eqb, ne_eqb, lt-ltb, le-ltb}
-use Rattle.listing.specs.Listing.{listing, lists, entered}
+use Rattle.listing.specs.Listing.{lists, entered}
 use Rattle.listing.proofs.Stretches.{few}
-use borrow.Author.Rules.{rules}
 use Rattle.listing.proofs.list.Goals as goal
 
 pub returns-then-slots : goal.returns-then-slots

@@ -2,7 +2,6 @@
 use native.Mathlib.Omega.{arith}
 use lib.ListN.{length-set}
 use Rattle.listing.proofs.Writing.{three}
-use borrow.Author.Rules.{rules}
 use Rattle.listing.proofs.put.Goals as goal
 
 pub bounds-list-at-2 : goal.bounds-list-at-2

@@ -1,10 +1,7 @@
 -- `listing::stretch_end`: from each place on, the entries alike are those behind it.
-use mathlib.Core.Path.{◌≡◌, refl, ◌∙◌}
-use Prim.Native.Nat.{ℕ, ◌+◌, ◌-◌, ◌≤◌}
-use native.Mathlib.Omega.{arith}
-use lib.ListN.{length, drop}
+use mathlib.Core.Path.{refl, ◌∙◌}
+use Prim.Native.Nat.{◌-◌}
 use borrow.Author.Tests.{eq-eqb, ne_eqb}
-use Rattle.listing.specs.Stretches.{alike}
 use Rattle.listing.proofs.Stretches.{alike_here, alike_past, alike_ended}
 use borrow.Author.Rules.{rules}
 use Rattle.listing.proofs.stretch_end.Goals as goal

@@ -1,9 +1,7 @@
 -- `listing::write`: what is written, and the ranges from the slot on behind it.
-use Prim.Native.Nat.{ℕ, ◌-◌}
+use Prim.Native.Nat.{◌-◌}
 use native.Mathlib.Omega.{arith}
-use lib.ListN.{length}
-use Rattle.listing.proofs.Writing.{Going, begun, done, on, still, past, room, put}
-use borrow.Author.Rules.{rules}
+use Rattle.listing.proofs.Writing.{begun, done, on, still, past, room, put}
 use Rattle.listing.proofs.write.Goals as goal
 
 pub loop-s-init : goal.loop-s-init

@@ -1,9 +1,7 @@
 -- `listing::write`: what is written, and the ranges from the slot on behind it.
-use Prim.Native.Nat.{ℕ, ◌-◌}
-use native.Mathlib.Omega.{arith}
+use Prim.Native.Nat.{◌-◌}
 use lib.ListN.{length}
-use Rattle.listing.proofs.Writing.{Going, begun, done, on, still, past, room, put}
-use borrow.Author.Rules.{rules}
+use Rattle.listing.proofs.Writing.{Going}
 use Rattle.listing.proofs.write.Given as goal
 
 abbrev pub invariant-loop-s : goal.invariant-loop-s

@@ -1,5 +1,4 @@
 -- `lookups::heard` meets its contract: an arm a reply.
-use borrow.Author.Rules.{rules}
 use Rattle.lookups.specs.Lookups.{heard}
 use Rattle.lookups.proofs.heard.Goals as goal
 

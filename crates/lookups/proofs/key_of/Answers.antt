@@ -1,12 +1,10 @@
 -- `lookups::key_of` meets its contract: the loop copies the front.
 use Prim.Native.Nat.{ℕ, ◌-◌}
-use mathlib.Core.Path.{◌≡◌, refl, subst, sym}
+use mathlib.Core.Path.{refl, subst}
 use mathlib.Core.List.{List}
 use native.Mathlib.Omega.{arith}
-use lib.ListN.{length, take, length-replicate}
-use Rattle.lookups.specs.Keys.{key_room}
+use lib.ListN.{length-replicate}
 use Rattle.lookups.proofs.Keys.{Copied, front_fits, one_more, carried}
-use borrow.Author.Rules.{rules}
 use Rattle.lookups.proofs.key_of.Goals as goal
 
 pub loop-i-init : goal.loop-i-init

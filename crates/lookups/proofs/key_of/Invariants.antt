@@ -1,12 +1,7 @@
 -- `lookups::key_of` meets its contract: the loop copies the front.
-use Prim.Native.Nat.{ℕ, ◌-◌}
-use mathlib.Core.Path.{◌≡◌, refl, subst, sym}
-use mathlib.Core.List.{List}
-use native.Mathlib.Omega.{arith}
-use lib.ListN.{length, take, length-replicate}
-use Rattle.lookups.specs.Keys.{key_room}
-use Rattle.lookups.proofs.Keys.{Copied, front_fits, one_more, carried}
-use borrow.Author.Rules.{rules}
+use Prim.Native.Nat.{◌-◌}
+use lib.ListN.{length}
+use Rattle.lookups.proofs.Keys.{Copied}
 use Rattle.lookups.proofs.key_of.Given as goal
 
 abbrev pub invariant-loop-i : goal.invariant-loop-i

@@ -2,7 +2,6 @@
 use native.Mathlib.Omega.{arith}
 use mathlib.Core.Path.{sym}
 use lib.Seq.{take_all, length-take-le}
-use borrow.Author.Rules.{rules}
 use Rattle.lookups.proofs.part.Goals as goal
 
 pub returns-then-length-text : goal.returns-then-length-text

@@ -1,6 +1,5 @@
 -- `lookups::sent_on` meets its contract.
 use borrow.Author.Tests.{eq-eqb, ne_eqb, le-leb, lt-leb}
-use borrow.Author.Rules.{rules}
 use Rattle.lookups.proofs.sent_on.Goals as goal
 
 pub returns-then-named-slot : goal.returns-then-named-slot

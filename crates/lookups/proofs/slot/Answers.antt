@@ -1,5 +1,4 @@
 -- `lookups::slot` meets its contract.
-use borrow.Author.Rules.{rules}
 use Rattle.lookups.proofs.slot.Goals as goal
 
 pub returns : goal.returns

@@ -1,9 +1,9 @@
 -- `marks::find` meets its contract.
 use mathlib.Core.Path.{◌≡◌, refl, sym, ap, ◌∙◌}
-use Prim.Native.Nat.{◌-◌, ◌≤◌, ◌<◌}
+use Prim.Native.Nat.{◌-◌, ◌<◌}
 use native.Mathlib.Omega.{arith}
 use borrow.Author.Rules.{rules}
-use lib.ListN.{length, take, drop, length-map}
+use lib.ListN.{length}
 use Rattle.tables.specs.Sizes.{mark_room}
 use Rattle.marks.specs.Marks.{marking_of}
 use Rattle.marks.proofs.Loops.{found, missed, past}

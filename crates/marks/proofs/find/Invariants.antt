@@ -1,12 +1,8 @@
 -- `marks::find` meets its contract.
-use mathlib.Core.Path.{◌≡◌, refl, sym, ap, ◌∙◌}
-use Prim.Native.Nat.{◌-◌, ◌≤◌, ◌<◌}
-use native.Mathlib.Omega.{arith}
-use borrow.Author.Rules.{rules}
-use lib.ListN.{length, take, drop, length-map}
-use Rattle.tables.specs.Sizes.{mark_room}
+use mathlib.Core.Path.{◌≡◌}
+use Prim.Native.Nat.{◌-◌, ◌≤◌}
+use lib.ListN.{take, drop}
 use Rattle.marks.specs.Marks.{marking_of}
-use Rattle.marks.proofs.Loops.{found, missed, past}
 use Rattle.marks.proofs.find.Given as goal
 
 abbrev pub invariant-loop-i : goal.invariant-loop-i

@@ -1,15 +1,12 @@
 -- `marks::mark_slot` meets its contract: `at k s` is what is left of the checks after k of them.
 use mathlib.Core.Path.{◌≡◌, sym, ap, ◌∙◌}
-use Prim.Native.Nat.{ℕ}
 use lib.ListN.{drop}
 use borrow.Author.Tests.{lt-ltb, le-ltb, le-leb, lt-leb, eq-eqb, ne_eqb}
-use borrow.Author.Rules.{rules}
 use Rattle.tables.specs.Checks.{checked}
 use Rattle.answers.specs.declared.Answer.TheVariants.{Done}
 use Rattle.state.specs.Outcomes.{answered}
 use Rattle.state.specs.Changes.{with_marks}
 use Rattle.state.specs.declared.Node.{Node}
-use Rattle.state.specs.declared.Outcome.{Outcome}
 use Rattle.marks.specs.MarkChanges.{mark_checks, marking}
 use Rattle.marks.proofs.Loops.{again}
 use Rattle.marks.proofs.mark_slot.Goals as goal

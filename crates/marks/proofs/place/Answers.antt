@@ -1,10 +1,10 @@
 -- `marks::place` meets its contract.
 use native.Mathlib.Nat.{zero-add}
-use mathlib.Core.Path.{◌≡◌, sym, ap, ◌∙◌}
-use Prim.Native.Nat.{◌+◌, ◌-◌, ◌≤◌, ◌<◌}
+use mathlib.Core.Path.{◌≡◌, sym, ap}
+use Prim.Native.Nat.{◌-◌, ◌<◌}
 use native.Mathlib.Omega.{arith}
 use borrow.Author.Rules.{rules}
-use lib.ListN.{length, take, drop, length-map}
+use lib.ListN.{length}
 use Rattle.tables.specs.Sizes.{mark_room}
 use Rattle.marks.specs.Marks.{place_of}
 use Rattle.marks.proofs.Loops.{here, further, past}

@@ -1,13 +1,8 @@
 -- `marks::place` meets its contract.
-use native.Mathlib.Nat.{zero-add}
-use mathlib.Core.Path.{◌≡◌, sym, ap, ◌∙◌}
-use Prim.Native.Nat.{◌+◌, ◌-◌, ◌≤◌, ◌<◌}
-use native.Mathlib.Omega.{arith}
-use borrow.Author.Rules.{rules}
-use lib.ListN.{length, take, drop, length-map}
-use Rattle.tables.specs.Sizes.{mark_room}
+use mathlib.Core.Path.{◌≡◌}
+use Prim.Native.Nat.{◌+◌, ◌-◌, ◌≤◌}
+use lib.ListN.{take, drop}
 use Rattle.marks.specs.Marks.{place_of}
-use Rattle.marks.proofs.Loops.{here, further, past}
 use Rattle.marks.proofs.place.Given as goal
 
 abbrev pub invariant-loop-i : goal.invariant-loop-i

@@ -3,7 +3,6 @@ use mathlib.Core.Path.{◌≡◌, sym, ap, ◌∙◌}
 use lib.ListN.{length}
 use lib.Dec.{eqb}
 use borrow.Author.Tests.{eqb-true, not-false}
-use borrow.Author.Rules.{rules}
 use Rattle.tables.specs.Sizes.{slot_count}
 use Rattle.tables.specs.Checks.{checked}
 use Rattle.answers.specs.declared.Answer.TheVariants.{Done}

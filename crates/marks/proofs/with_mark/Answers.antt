@@ -1,10 +1,10 @@
 -- `marks::with_mark` meets its contract.
 use mathlib.Core.Path.{◌≡◌, refl, sym, ap₂, ◌∙◌}
-use mathlib.Core.List.{List, ◌++◌}
-use Prim.Native.Nat.{ℕ, ◌+◌, ◌-◌, ◌≤◌, ◌<◌}
+use mathlib.Core.List.{List}
+use Prim.Native.Nat.{ℕ, ◌+◌, ◌-◌, ◌<◌}
 use native.Mathlib.Omega.{arith}
 use borrow.Author.Rules.{rules}
-use lib.ListN.{length, take, drop, length-map, length-set}
+use lib.ListN.{length, length-set}
 use lib.Seq.{drop-set-lt}
 use Rattle.tables.specs.Sizes.{mark_room}
 use Rattle.marks.specs.Marks.{marks_of, insert}

@@ -1,16 +1,9 @@
 -- `marks::with_mark` meets its contract.
-use mathlib.Core.Path.{◌≡◌, refl, sym, ap₂, ◌∙◌}
-use mathlib.Core.List.{List, ◌++◌}
-use Prim.Native.Nat.{ℕ, ◌+◌, ◌-◌, ◌≤◌, ◌<◌}
-use native.Mathlib.Omega.{arith}
-use borrow.Author.Rules.{rules}
-use lib.ListN.{length, take, drop, length-map, length-set}
-use lib.Seq.{drop-set-lt}
+use mathlib.Core.Path.{◌≡◌}
+use mathlib.Core.List.{◌++◌}
+use Prim.Native.Nat.{◌+◌, ◌-◌, ◌≤◌}
+use lib.ListN.{length, take, drop}
 use Rattle.tables.specs.Sizes.{mark_room}
-use Rattle.marks.specs.Marks.{marks_of, insert}
-use Rattle.state.specs.Changes.{with_marks}
-use Rattle.state.specs.declared.Mark.{Mark}
-use Rattle.marks.proofs.Loops.{started, moved, still, ended}
 use Rattle.marks.proofs.with_mark.Given as goal
 
 abbrev pub invariant-loop-i : goal.invariant-loop-i

@@ -4,7 +4,7 @@ use mathlib.Core.List.{List, [], ◌∷◌, ◌++◌}
 use Prim.Native.Nat.{ℕ, ◌+◌, ◌-◌, ◌≤◌, ◌<◌}
 use native.Mathlib.Omega.{arith}
 use borrow.Author.Rules.{rules}
-use lib.ListN.{length, take, drop, get_or, length-map, length-append}
+use lib.ListN.{length, take, drop, get_or, length-append}
 use Rattle.tables.specs.Sizes.{mark_room}
 use Rattle.state.specs.Node.{no_mark}
 use Rattle.state.specs.Changes.{with_marks}

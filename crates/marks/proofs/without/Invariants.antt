@@ -1,16 +1,10 @@
 -- `marks::without` meets its contract.
-use mathlib.Core.Path.{◌≡◌, refl, sym, ap, ap₂, ◌∙◌}
-use mathlib.Core.List.{List, [], ◌∷◌, ◌++◌}
-use Prim.Native.Nat.{ℕ, ◌+◌, ◌-◌, ◌≤◌, ◌<◌}
-use native.Mathlib.Omega.{arith}
-use borrow.Author.Rules.{rules}
-use lib.ListN.{length, take, drop, get_or, length-map, length-append}
-use Rattle.tables.specs.Sizes.{mark_room}
-use Rattle.state.specs.Node.{no_mark}
-use Rattle.state.specs.Changes.{with_marks}
-use Rattle.state.specs.declared.Mark.{Mark}
-use Rattle.marks.specs.Marks.{marks_of, others}
-use Rattle.marks.proofs.Loops.{left_out, kept, laid}
+use mathlib.Core.Path.{◌≡◌}
+use mathlib.Core.List.{◌++◌}
+use Prim.Native.Nat.{◌+◌, ◌-◌, ◌≤◌}
+use lib.ListN.{length, take, drop}
+use Rattle.marks.specs.Marks.{others}
+use Rattle.marks.proofs.Loops.{kept}
 use Rattle.marks.proofs.without.Given as goal
 
 abbrev pub invariant-loop-i : goal.invariant-loop-i

@@ -1,5 +1,4 @@
 -- `naming::heard` meets its contract.
-use borrow.Author.Rules.{rules}
 use Rattle.naming.proofs.heard.Goals as goal
 
 pub returns-in-Master : goal.returns-in-Master

@@ -1,5 +1,4 @@
 -- `naming::named` meets its contract.
-use borrow.Author.Rules.{rules}
 use Rattle.naming.proofs.named.Goals as goal
 
 pub returns-in-Heartbeat : goal.returns-in-Heartbeat

@@ -1,5 +1,4 @@
 -- `naming::same` meets its contract.
-use borrow.Author.Rules.{rules}
 use Rattle.naming.proofs.same.Goals as goal
 
 pub returns-in-Nobody : goal.returns-in-Nobody

@@ -1,6 +1,5 @@
 -- `naming::some_own` meets its contract.
 use borrow.Author.Tests.{eq-eqb, ne_eqb}
-use borrow.Author.Rules.{rules}
 use Rattle.naming.proofs.some_own.Goals as goal
 
 pub returns-then-me-first : goal.returns-then-me-first

@@ -1,6 +1,5 @@
 -- `naming::some_past` meets its contract.
-use borrow.Author.Tests.{le-leb, le-ltb, lt-leb, lt-ltb}
-use borrow.Author.Rules.{rules}
+use borrow.Author.Tests.{le-leb, le-ltb, lt-leb}
 use Rattle.naming.proofs.some_past.Goals as goal
 
 pub returns-then-size-first : goal.returns-then-size-first

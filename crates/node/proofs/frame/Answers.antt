@@ -1,7 +1,6 @@
 -- `node::frame` meets its contract.
 use Rattle.answers.proofs.Checks.{by_check}
 use Rattle.node.specs.Step.{on_frame}
-use borrow.Author.Rules.{rules}
 use Rattle.node.proofs.frame.Goals as goal
 
 pub returns-in-Refused : goal.returns-in-Refused

@@ -1,5 +1,5 @@
 -- `nodesets::add` meets its contract.
-use mathlib.Core.Path.{◌≡◌, sym, ap, ◌∙◌}
+use mathlib.Core.Path.{sym, ap, ◌∙◌}
 use mathlib.Core.List.{[], ◌∷◌}
 use Prim.Native.Nat.{ℕ, ◌^◌}
 use native.Mathlib.Nat.{one-mul}
@@ -9,7 +9,6 @@ use lib.Dec.{lit<}
 use lib.Pow.{shl_exact}
 use Rattle.tables.proofs.Words.{add_in, add_out}
 use Rattle.nodesets.specs.NodeSets.{set_of}
-use borrow.Author.Rules.{rules}
 use Rattle.nodesets.proofs.add.Goals as goal
 
 pub returns-then-v-ge-MOST_NODES : goal.returns-then-v-ge-MOST_NODES

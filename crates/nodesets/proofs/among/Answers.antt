@@ -1,9 +1,7 @@
 -- `nodesets::among` meets its contract: the entries passed are in the set.
 use mathlib.Core.Path.{sym, subst}
 use Prim.Native.Nat.{◌+◌, ◌-◌}
-use lib.ListN.{length}
 use Rattle.nodesets.proofs.Gathered.{Passed, passed_none, passed_more, passed_all}
-use borrow.Author.Rules.{rules}
 use Rattle.nodesets.proofs.among.Goals as goal
 
 pub loop-i-init : goal.loop-i-init

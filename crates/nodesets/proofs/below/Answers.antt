@@ -1,8 +1,7 @@
 -- `nodesets::below` meets its contract.
-use mathlib.Core.Path.{◌≡◌, refl, sym}
+use mathlib.Core.Path.{◌≡◌}
 use Prim.Native.Nat.{◌^◌, min}
 use native.Mathlib.Omega.{arith}
-use lib.Dec.{ltb}
 use borrow.Author.Tests.{lt-ltb}
 use Rattle.tables.proofs.Words.{small, alone}
 use borrow.Author.Rules.{rules}

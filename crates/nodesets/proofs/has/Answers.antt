@@ -1,7 +1,6 @@
 -- `nodesets::has` meets its contract.
 use mathlib.Core.Path.{sym}
 use Rattle.tables.proofs.Words.{has_in, has_out}
-use borrow.Author.Rules.{rules}
 use Rattle.nodesets.proofs.has.Goals as goal
 
 pub returns-then-v-ge-MOST_NODES : goal.returns-then-v-ge-MOST_NODES

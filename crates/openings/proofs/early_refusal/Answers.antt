@@ -9,7 +9,6 @@ use Rattle.answers.specs.declared.Check.TheVariants.{Passed, Refused}
 use Rattle.answers.proofs.Checks.{on_check, in_two}
 use Rattle.entry.specs.Entry.{entry_checks}
 use Rattle.openings.specs.Openings.{time_checks, open_refusals}
-use borrow.Author.Rules.{rules}
 use Rattle.openings.proofs.early_refusal.Goals as goal
 
 pub returns-then-time-ge-TIME_END : goal.returns-then-time-ge-TIME_END

@@ -6,7 +6,6 @@ use Rattle.answers.proofs.Checks.{on_check, by_check, unrefused}
 use Rattle.openings.specs.Openings.{open_refusals, standing, opens}
 use Rattle.openings.proofs.Steps.{arrives}
 use Rattle.openings.proofs.Kept.{arrived_sound}
-use borrow.Author.Rules.{rules}
 use Rattle.openings.proofs.open.Goals as goal
 
 pub standing-requires : goal.standing-requires

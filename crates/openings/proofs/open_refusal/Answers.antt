@@ -1,13 +1,10 @@
 -- `openings::open_refusal` meets its contract: each return is one row of the checks.
 use mathlib.Core.Path.{◌≡◌, sym, ◌∙◌}
-use Prim.Native.Nat.{ℕ}
 use lib.ListN.{drop}
 use borrow.Author.Tests.{le-leb, lt-leb}
 use Rattle.tables.specs.Checks.{checked}
 use Rattle.openings.specs.Openings.{open_checks}
-use Rattle.answers.specs.declared.Check.{Check}
 use Rattle.answers.specs.declared.Check.TheVariants.{Passed, Refused}
-use borrow.Author.Rules.{rules}
 use Rattle.openings.proofs.open_refusal.Goals as goal
 
 pub returns-then-is_master : goal.returns-then-is_master

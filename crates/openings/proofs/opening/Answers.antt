@@ -1,7 +1,6 @@
 -- `openings::opening` meets its contract.
 use Rattle.state.proofs.Voting.{voting_both}
 use Rattle.openings.specs.Openings.{opening}
-use borrow.Author.Rules.{rules}
 use Rattle.openings.proofs.opening.Goals as goal
 
 pub returns : goal.returns

@@ -10,7 +10,6 @@ use Rattle.soundness.proofs.Facts.{me_listed, few_nodes}
 use Rattle.answers.proofs.Checks.{on_check, by_check, unrefused}
 use Rattle.openings.specs.Openings.{open_checks, opening, standing}
 use Rattle.openings.proofs.Kept.{followed_within}
-use borrow.Author.Rules.{rules}
 use Rattle.openings.proofs.standing.Goals as goal
 
 pub bounds-node-me : goal.bounds-node-me

@@ -1,7 +1,6 @@
 -- `openings::young` meets its contract.
 use mathlib.Core.Path.{sym, ap}
 use Rattle.openings.specs.Openings.{young}
-use borrow.Author.Rules.{rules}
 use Rattle.openings.proofs.young.Goals as goal
 
 pub returns-in-Open : goal.returns-in-Open

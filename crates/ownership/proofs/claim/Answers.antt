@@ -1,15 +1,12 @@
 -- `ownership::claim` meets its contract: each turn of the inner loop is a claimed slot by its fate, and between two turns slots stay.
-use mathlib.Core.Path.{◌≡◌, refl, sym, ◌∙◌}
-use Prim.Native.Nat.{◌-◌, ◌*◌, ◌/◌}
+use mathlib.Core.Path.{refl, sym, ◌∙◌}
+use Prim.Native.Nat.{◌-◌}
 use native.Mathlib.Omega.{arith}
 use lib.Count.{trailing_le}
-use lib.ListN.{length}
 use Rattle.bitmaps.proofs.Scan.{rest_less}
-use Rattle.bitmaps.proofs.Claims.{Reads, is_claimed_lem, closes, reads_on}
-use Rattle.ownership.specs.Claim.{claimant, claim}
-use Rattle.ownership.proofs.Walk.{left, Stands, begin, onwards, joined, binds, rebinds, tells, keeps, finish}
+use Rattle.bitmaps.proofs.Claims.{is_claimed_lem, closes, reads_on}
+use Rattle.ownership.proofs.Walk.{begin, onwards, joined, binds, rebinds, tells, keeps, finish}
 use Rattle.ownership.proofs.Reading.{carries, starts_reading, in_slots}
-use borrow.Author.Rules.{rules}
 use Rattle.ownership.proofs.claim.Goals as goal
 
 pub loop-from-init : goal.loop-from-init

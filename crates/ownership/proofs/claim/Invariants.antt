@@ -1,15 +1,10 @@
 -- `ownership::claim` meets its contract: each turn of the inner loop is a claimed slot by its fate, and between two turns slots stay.
-use mathlib.Core.Path.{◌≡◌, refl, sym, ◌∙◌}
+use mathlib.Core.Path.{◌≡◌}
 use Prim.Native.Nat.{◌-◌, ◌*◌, ◌/◌}
-use native.Mathlib.Omega.{arith}
-use lib.Count.{trailing_le}
 use lib.ListN.{length}
-use Rattle.bitmaps.proofs.Scan.{rest_less}
-use Rattle.bitmaps.proofs.Claims.{Reads, is_claimed_lem, closes, reads_on}
+use Rattle.bitmaps.proofs.Claims.{Reads}
 use Rattle.ownership.specs.Claim.{claimant, claim}
-use Rattle.ownership.proofs.Walk.{left, Stands, begin, onwards, joined, binds, rebinds, tells, keeps, finish}
-use Rattle.ownership.proofs.Reading.{carries, starts_reading, in_slots}
-use borrow.Author.Rules.{rules}
+use Rattle.ownership.proofs.Walk.{left, Stands}
 use Rattle.ownership.proofs.claim.Given as goal
 
 abbrev pub invariant-loop-word : goal.invariant-loop-word

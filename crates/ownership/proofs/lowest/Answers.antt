@@ -1,5 +1,4 @@
 -- `ownership::lowest` meets its contract.
-use borrow.Author.Rules.{rules}
 use Rattle.ownership.proofs.lowest.Goals as goal
 
 pub returns-in-Nothing : goal.returns-in-Nothing

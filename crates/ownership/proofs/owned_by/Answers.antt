@@ -1,7 +1,7 @@
 -- `ownership::owned_by` meets its contract: the entries below k were looked at.
 use mathlib.Core.Path.{◌≡◌, refl}
 use mathlib.Core.Bool.{Bool, true, false, cond, ◌&&◌}
-use Prim.Native.Nat.{◌+◌, ◌-◌, ◌≤◌}
+use Prim.Native.Nat.{◌+◌, ◌-◌}
 use native.Mathlib.Numerals.{add-one}
 use native.Mathlib.Omega.{arith}
 use lib.Dec.{eqb}
@@ -9,7 +9,6 @@ use lib.ListN.{get_or}
 use borrow.Author.Tests.{ne_eqb}
 use Rattle.tables.specs.Below.{every}
 use Rattle.tables.proofs.Below.{every_fails}
-use borrow.Author.Rules.{rules}
 use Rattle.ownership.proofs.owned_by.Goals as goal
 
 and-cond : (a b : Bool) → (a && b) ≡ cond b a false

@@ -1,15 +1,9 @@
 -- `ownership::owned_by` meets its contract: the entries below k were looked at.
-use mathlib.Core.Path.{◌≡◌, refl}
-use mathlib.Core.Bool.{Bool, true, false, cond, ◌&&◌}
+use mathlib.Core.Path.{◌≡◌}
 use Prim.Native.Nat.{◌+◌, ◌-◌, ◌≤◌}
-use native.Mathlib.Numerals.{add-one}
-use native.Mathlib.Omega.{arith}
 use lib.Dec.{eqb}
 use lib.ListN.{get_or}
-use borrow.Author.Tests.{ne_eqb}
 use Rattle.tables.specs.Below.{every}
-use Rattle.tables.proofs.Below.{every_fails}
-use borrow.Author.Rules.{rules}
 use Rattle.ownership.proofs.owned_by.Given as goal
 
 abbrev pub invariant-loop-k : goal.invariant-loop-k

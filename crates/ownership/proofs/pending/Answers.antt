@@ -7,7 +7,6 @@ use lib.ListN.{length}
 use borrow.Author.Tests.{lt-ltb, le-ltb, lt-leb, le-leb}
 use Rattle.tables.specs.Sets.{claimed, word_of}
 use Rattle.ownership.specs.Own.{all_own}
-use borrow.Author.Rules.{rules}
 use Rattle.ownership.proofs.pending.Goals as goal
 
 -- a word that is 0 is 0 either way

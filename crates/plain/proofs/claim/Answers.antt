@@ -1,10 +1,7 @@
 -- `plain::claim` meets its contract: each turn is a slot by its fate.
 use mathlib.Core.Path.{sym, ◌∙◌}
 use Prim.Native.Nat.{◌-◌}
-use lib.ListN.{length}
-use Rattle.ownership.specs.Claim.{claimant}
-use Rattle.plain.proofs.Turns.{Goes, starts, binds, rebinds, tells, keeps, skips, ends}
-use borrow.Author.Rules.{rules}
+use Rattle.plain.proofs.Turns.{starts, binds, rebinds, tells, keeps, skips, ends}
 use Rattle.plain.proofs.claim.Goals as goal
 
 pub loop-next-init : goal.loop-next-init

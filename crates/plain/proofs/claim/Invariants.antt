@@ -1,10 +1,8 @@
 -- `plain::claim` meets its contract: each turn is a slot by its fate.
-use mathlib.Core.Path.{sym, ◌∙◌}
 use Prim.Native.Nat.{◌-◌}
 use lib.ListN.{length}
 use Rattle.ownership.specs.Claim.{claimant}
-use Rattle.plain.proofs.Turns.{Goes, starts, binds, rebinds, tells, keeps, skips, ends}
-use borrow.Author.Rules.{rules}
+use Rattle.plain.proofs.Turns.{Goes}
 use Rattle.plain.proofs.claim.Given as goal
 
 abbrev pub invariant-loop-next : goal.invariant-loop-next

@@ -1,7 +1,6 @@
 -- `plain::fate_of` meets its contract: each way out is one case of the fate.
 use borrow.Author.Tests.{eq-eqb, le-ltb, lt-ltb, ne_eqb}
 use Rattle.ownership.specs.Claim.{fate}
-use borrow.Author.Rules.{rules}
 use Rattle.plain.proofs.fate_of.Goals as goal
 
 pub returns-then-owner-size : goal.returns-then-owner-size

@@ -1,5 +1,4 @@
 -- `plain::lowest` meets its contract.
-use borrow.Author.Rules.{rules}
 use Rattle.plain.proofs.lowest.Goals as goal
 
 pub returns-in-Nothing : goal.returns-in-Nothing

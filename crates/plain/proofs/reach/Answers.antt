@@ -1,6 +1,5 @@
 -- `plain::reach` meets its contract.
 use borrow.Author.Tests.{le-leb, lt-leb}
-use borrow.Author.Rules.{rules}
 use Rattle.plain.proofs.reach.Goals as goal
 
 pub returns-then-bytes-slots : goal.returns-then-bytes-slots

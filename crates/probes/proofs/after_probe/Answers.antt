@@ -1,6 +1,5 @@
 -- `probes::after_probe` meets its contract.
 use Rattle.probes.specs.Probes.{after_probe}
-use borrow.Author.Rules.{rules}
 use Rattle.probes.proofs.after_probe.Goals as goal
 
 pub returns-in-Ping : goal.returns-in-Ping

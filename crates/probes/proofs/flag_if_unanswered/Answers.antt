@@ -1,7 +1,6 @@
 -- `probes::flag_if_unanswered` meets its contract.
 use borrow.Author.Tests.{eq-eqb, ne_eqb}
 use Rattle.probes.specs.Probes.{unanswered, flag_if_unanswered}
-use borrow.Author.Rules.{rules}
 use Rattle.probes.proofs.flag_if_unanswered.Goals as goal
 
 pub returns-then-k-node : goal.returns-then-k-node

@@ -1,5 +1,4 @@
 -- `probes::is_overdue` meets its contract.
-use borrow.Author.Rules.{rules}
 use Rattle.probes.proofs.is_overdue.Goals as goal
 
 pub returns-in-Never : goal.returns-in-Never

@@ -1,6 +1,5 @@
 -- `probes::is_recovered` meets its contract.
 use Rattle.probes.specs.Probes.{recovered}
-use borrow.Author.Rules.{rules}
 use Rattle.probes.proofs.is_recovered.Goals as goal
 
 pub returns-else-is_master : goal.returns-else-is_master

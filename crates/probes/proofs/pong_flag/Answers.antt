@@ -1,6 +1,5 @@
 -- `probes::pong_flag` meets its contract.
 use Rattle.probes.specs.Probes.{pong_flag}
-use borrow.Author.Rules.{rules}
 use Rattle.probes.proofs.pong_flag.Goals as goal
 
 pub returns-then-is_recovered : goal.returns-then-is_recovered

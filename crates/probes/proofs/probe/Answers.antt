@@ -1,12 +1,9 @@
 -- `probes::probe` meets its contract.
-use mathlib.Core.Path.{◌≡◌, refl, sym, ◌∙◌}
+use mathlib.Core.Path.{refl, sym}
 use native.Mathlib.Omega.{arith}
-use lib.ListN.{length, length-map}
-use Rattle.tables.specs.Sizes.{node_room}
 use Rattle.state.specs.Changes.{with_records}
 use Rattle.failure.proofs.Records.{record_out}
 use Rattle.probes.specs.Probes.{probed}
-use borrow.Author.Rules.{rules}
 use Rattle.probes.proofs.probe.Goals as goal
 
 pub returns-then-k-lt-NODES : goal.returns-then-k-lt-NODES

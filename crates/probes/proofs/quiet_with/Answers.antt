@@ -1,5 +1,4 @@
 -- `probes::quiet_with` meets its contract.
-use borrow.Author.Rules.{rules}
 use Rattle.probes.proofs.quiet_with.Goals as goal
 
 pub returns-then-is_pfail : goal.returns-then-is_pfail

@@ -1,5 +1,4 @@
 -- `probes::start` meets its contract.
-use borrow.Author.Rules.{rules}
 use Rattle.probes.proofs.start.Goals as goal
 
 pub returns-in-Never : goal.returns-in-Never

@@ -1,9 +1,9 @@
 -- `probes::tick` meets its contract.
 use mathlib.Core.Path.{◌≡◌, refl, sym, ap, subst, ◌∙◌}
 use mathlib.Core.Bool.{true}
-use Prim.Native.Nat.{ℕ, ◌+◌, ◌-◌, min, ◌≤◌, ◌<◌}
+use Prim.Native.Nat.{ℕ, ◌+◌, ◌-◌, min, ◌<◌}
 use native.Mathlib.Omega.{arith}
-use lib.ListN.{length, length-map}
+use lib.ListN.{length}
 use borrow.Author.Tests.{le-ltb}
 use Rattle.tables.specs.Sizes.{node_room}
 use Rattle.tables.specs.Below.{in_turn}
@@ -16,7 +16,7 @@ use Rattle.failure.specs.Failure.{looked_at}
 use Rattle.probes.specs.Probes.{suspected}
 use Rattle.state.proofs.Voting.{voting_both}
 use Rattle.failure.proofs.Masters.{gathers}
-use Rattle.probes.proofs.Ticks.{master_then, both_loops, room_kept, NonePfail, still, none_more, none_looked}
+use Rattle.probes.proofs.Ticks.{master_then, both_loops, room_kept, still, none_more, none_looked}
 use borrow.Author.Rules.{rules}
 use Rattle.probes.proofs.tick.Goals as goal
 

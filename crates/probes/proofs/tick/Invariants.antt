@@ -1,23 +1,13 @@
 -- `probes::tick` meets its contract.
-use mathlib.Core.Path.{◌≡◌, refl, sym, ap, subst, ◌∙◌}
+use mathlib.Core.Path.{◌≡◌}
 use mathlib.Core.Bool.{true}
-use Prim.Native.Nat.{ℕ, ◌+◌, ◌-◌, min, ◌≤◌, ◌<◌}
-use native.Mathlib.Omega.{arith}
-use lib.ListN.{length, length-map}
-use borrow.Author.Tests.{le-ltb}
-use Rattle.tables.specs.Sizes.{node_room}
+use Prim.Native.Nat.{◌-◌, ◌≤◌}
 use Rattle.tables.specs.Below.{in_turn}
-use Rattle.tables.proofs.Below.{in_turn_more}
-use Rattle.nodesets.proofs.Gathered.{Gathered, at_first, at_last}
-use Rattle.state.specs.Node.{record_at, master_at, masters, is_pfail, voting_masters}
-use Rattle.state.specs.Changes.{with_records}
-use Rattle.state.specs.declared.Record.{Record}
+use Rattle.nodesets.proofs.Gathered.{Gathered}
+use Rattle.state.specs.Node.{master_at, masters}
 use Rattle.failure.specs.Failure.{looked_at}
 use Rattle.probes.specs.Probes.{suspected}
-use Rattle.state.proofs.Voting.{voting_both}
-use Rattle.failure.proofs.Masters.{gathers}
-use Rattle.probes.proofs.Ticks.{master_then, both_loops, room_kept, NonePfail, still, none_more, none_looked}
-use borrow.Author.Rules.{rules}
+use Rattle.probes.proofs.Ticks.{NonePfail}
 use Rattle.probes.proofs.tick.Given as goal
 
 abbrev pub invariant-loop-k : goal.invariant-loop-k

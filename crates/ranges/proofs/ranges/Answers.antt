@@ -7,7 +7,6 @@ use Rattle.answers.proofs.Checks.{on_check, by_check}
 use Rattle.entry.specs.Entry.{entry_checks}
 use Rattle.listing.specs.Listing.{refused, lists}
 use Rattle.ranges.specs.Ranges.{ranges}
-use borrow.Author.Rules.{rules}
 use Rattle.ranges.proofs.ranges.Goals as goal
 
 pub returns-in-Refused : goal.returns-in-Refused

@@ -1,5 +1,4 @@
 -- `readings::ukweribaso_claim_plain` meets its contract.
-use borrow.Author.Rules.{rules}
 use Rattle.readings.proofs.ukweribaso_claim_plain.Goals as goal
 
 pub returns : goal.returns

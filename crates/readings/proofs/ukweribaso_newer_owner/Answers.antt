@@ -1,7 +1,6 @@
 -- `readings::ukweribaso_newer_owner` meets its contract.
 use mathlib.Core.Path.{ap, ◌∙◌}
 use Rattle.digests.specs.Digest.{place}
-use borrow.Author.Rules.{rules}
 use Rattle.readings.proofs.ukweribaso_newer_owner.Goals as goal
 
 pub returns : goal.returns

@@ -1,7 +1,6 @@
 -- `records::known_at` meets its contract.
 use Prim.Native.Nat.{ℕ}
 use lib.ListN.{get_or-eq_default}
-use borrow.Author.Rules.{rules}
 use Rattle.records.proofs.known_at.Goals as goal
 
 pub returns : goal.returns

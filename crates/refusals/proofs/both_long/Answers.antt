@@ -1,6 +1,5 @@
 -- `refusals::both_long` meets its contract.
 use borrow.Author.Tests.{eq-eqb, ne_eqb}
-use borrow.Author.Rules.{rules}
 use Rattle.refusals.proofs.both_long.Goals as goal
 
 pub returns-then-slots : goal.returns-then-slots

@@ -1,7 +1,6 @@
 -- `refusals::frame_refusal` meets its contract.
 use borrow.Author.Tests.{le-leb, le-ltb, lt-leb, lt-ltb}
 use Rattle.refusals.specs.Refusals.{frame_refusals}
-use borrow.Author.Rules.{rules}
 use Rattle.refusals.proofs.frame_refusal.Goals as goal
 
 pub returns-then-some_past : goal.returns-then-some_past

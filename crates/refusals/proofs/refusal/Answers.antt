@@ -2,7 +2,6 @@
 use mathlib.Core.Path.{sym, ◌∙◌}
 use Rattle.refusals.specs.Refusals.{frame_refusals}
 use Rattle.refusals.proofs.Admitted.{by_entry}
-use borrow.Author.Rules.{rules}
 use Rattle.refusals.proofs.refusal.Goals as goal
 
 pub returns-in-Refused : goal.returns-in-Refused

@@ -1,5 +1,4 @@
 -- `reports::fail_flag` meets its contract.
-use borrow.Author.Rules.{rules}
 use Rattle.reports.proofs.fail_flag.Goals as goal
 
 pub returns-in-Clear : goal.returns-in-Clear

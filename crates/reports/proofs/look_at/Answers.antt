@@ -1,10 +1,8 @@
 -- `reports::look_at` meets its contract: the masters among the records passed, and of them those that own a slot.
 use mathlib.Core.Path.{◌≡◌, refl, sym, subst, ◌∙◌}
-use Prim.Native.Nat.{◌+◌, ◌-◌, ◌≤◌}
+use Prim.Native.Nat.{◌+◌, ◌-◌}
 use native.Mathlib.Omega.{arith}
-use lib.ListN.{length, length-map}
 use borrow.Author.Tests.{lt-ltb, le-ltb}
-use Rattle.tables.specs.Sizes.{node_room}
 use Rattle.nodesets.proofs.Gathered.{Gathered, at_first, at_last}
 use Rattle.state.specs.Node.{record_at, master_at, masters, is_master, voting_masters}
 use Rattle.state.specs.Changes.{with_records}

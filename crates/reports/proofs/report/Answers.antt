@@ -1,9 +1,7 @@
 -- `reports::report` meets its contract.
 use mathlib.Core.Path.{◌≡◌, refl}
-use mathlib.Core.Logic.{⊎_elim}
 use Rattle.reports.specs.Reports.{reported}
 use Rattle.reports.specs.Reports.{stored}
-use borrow.Author.Rules.{rules}
 use Rattle.reports.proofs.report.Goals as goal
 use Rattle.reports.proofs.report.Goals.{in-Pfail, in-Fail}
 

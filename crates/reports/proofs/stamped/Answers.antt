@@ -1,6 +1,5 @@
 -- `reports::stamped` meets its contract.
 use borrow.Author.Tests.{le-ltb, lt-ltb}
-use borrow.Author.Rules.{rules}
 use Rattle.reports.proofs.stamped.Goals as goal
 
 pub returns-then-t-lt-TIME_END : goal.returns-then-t-lt-TIME_END

@@ -3,7 +3,6 @@ use mathlib.Core.Path.{refl, sym}
 use native.Mathlib.Omega.{arith}
 use lib.Seq.{set_out}
 use Rattle.failure.specs.Failure.{report_at, stamp}
-use borrow.Author.Rules.{rules}
 use Rattle.reports.proofs.store.Goals as goal
 
 pub returns-then-place-reports : goal.returns-then-place-reports

@@ -1,6 +1,5 @@
 -- `rosters::roster` meets its contract.
 use Rattle.rosters.specs.Rosters.{roster}
-use borrow.Author.Rules.{rules}
 use Rattle.rosters.proofs.roster.Goals as goal
 
 pub returns : goal.returns

@@ -1,6 +1,6 @@
 -- `rosters::silence` meets its contract: so many nodes below k + 2 are silent.
 use mathlib.Core.Path.{◌≡◌, refl, sym, ap, ◌∙◌}
-use Prim.Native.Nat.{ℕ, ◌-◌, ◌≤◌}
+use Prim.Native.Nat.{ℕ, ◌-◌}
 use native.Mathlib.Omega.{arith}
 use Rattle.tables.specs.Below.{in_turn}
 use Rattle.tables.proofs.Below.{in_turn_more}

@@ -1,12 +1,8 @@
 -- `rosters::silence` meets its contract: so many nodes below k + 2 are silent.
-use mathlib.Core.Path.{◌≡◌, refl, sym, ap, ◌∙◌}
-use Prim.Native.Nat.{ℕ, ◌-◌, ◌≤◌}
-use native.Mathlib.Omega.{arith}
+use mathlib.Core.Path.{◌≡◌}
+use Prim.Native.Nat.{◌-◌, ◌≤◌}
 use Rattle.tables.specs.Below.{in_turn}
-use Rattle.tables.proofs.Below.{in_turn_more}
-use Rattle.state.specs.Changes.{with_records}
-use Rattle.rosters.specs.Rosters.{silenced_next, silenced, room}
-use borrow.Author.Rules.{rules}
+use Rattle.rosters.specs.Rosters.{silenced_next}
 use Rattle.rosters.proofs.silence.Given as goal
 
 abbrev pub invariant-loop-k : goal.invariant-loop-k

@@ -1,5 +1,4 @@
 -- `rosters::silent`: both changes, the flag first.
-use borrow.Author.Rules.{rules}
 use Rattle.rosters.proofs.silent.Goals as goal
 
 pub returns : goal.returns

@@ -1,5 +1,4 @@
 -- `routing::at_home` meets its contract.
-use borrow.Author.Rules.{rules}
 use Rattle.routing.proofs.at_home.Goals as goal
 
 pub returns-else-present : goal.returns-else-present

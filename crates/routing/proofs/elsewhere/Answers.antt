@@ -1,6 +1,5 @@
 -- `routing::elsewhere` meets its contract.
 use mathlib.Core.Path.{sym, ◌∙◌}
-use borrow.Author.Rules.{rules}
 use Rattle.routing.proofs.elsewhere.Goals as goal
 
 pub returns-then-asking : goal.returns-then-asking

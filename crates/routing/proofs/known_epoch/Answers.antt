@@ -1,9 +1,7 @@
 -- `routing::known_epoch` meets its contract.
-use mathlib.Core.Path.{◌≡◌, sym, ap, ◌∙◌}
+use mathlib.Core.Path.{sym, ap}
 use native.Mathlib.Omega.{arith}
-use lib.ListN.{length, length-map, get_or-eq_default}
-use borrow.Author.Rules.{rules}
-use Rattle.tables.specs.Sizes.{node_room}
+use lib.ListN.{get_or-eq_default}
 use Rattle.state.specs.Node.{blank}
 use Rattle.state.specs.declared.Record.{Record}
 use Rattle.routing.proofs.known_epoch.Goals as goal

@@ -1,6 +1,5 @@
 -- `routing::redirected` meets its contract.
 use borrow.Author.Tests.{le-ltb, lt-ltb, eq-eqb, ne_eqb}
-use borrow.Author.Rules.{rules}
 use Rattle.routing.proofs.redirected.Goals as goal
 
 pub returns-then-owner-node : goal.returns-then-owner-node

@@ -1,6 +1,5 @@
 -- `routing::refused` meets its contract.
 use mathlib.Core.Path.{sym, ap, ◌∙◌}
-use borrow.Author.Rules.{rules}
 use Rattle.routing.specs.Replies.{refused}
 use Rattle.routing.proofs.Replies.{one_or_seven}
 use Rattle.routing.proofs.refused.Goals as goal

@@ -6,7 +6,6 @@ use lib.ListN.{length}
 use lib.Seq.{length-take-le}
 use Rattle.tables.proofs.Walks.{first_within}
 use Rattle.scraps.specs.Scraps.{takes}
-use borrow.Author.Rules.{rules}
 use Rattle.scraps.proofs.gather.Goals as goal
 
 pub overflow_add-used : goal.overflow_add-used

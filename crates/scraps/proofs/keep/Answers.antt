@@ -1,11 +1,7 @@
 -- `scraps::keep`: the loop copies the bytes behind what is kept.
-use mathlib.Core.Path.{◌≡◌, sym, ◌∙◌}
 use native.Mathlib.Omega.{arith}
 use Prim.Native.Nat.{◌-◌}
-use lib.ListN.{length, length-map}
-use Rattle.scraps.specs.Scraps.{room}
-use Rattle.scraps.proofs.Lines.{stays, becomes, Copied, begun, turn, copied}
-use borrow.Author.Rules.{rules}
+use Rattle.scraps.proofs.Lines.{stays, becomes, turn, copied}
 use Rattle.scraps.proofs.keep.Goals as goal
 
 pub returns-then-start-gt-ROOM : goal.returns-then-start-gt-ROOM

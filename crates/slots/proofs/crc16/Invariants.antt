@@ -1,12 +1,9 @@
 -- `slots::crc16`: from each place on, the rest is divided on; the table has its rule by one computed test.
-use mathlib.Core.Path.{◌≡◌, refl, sym, ◌∙◌}
+use mathlib.Core.Path.{◌≡◌}
 use Prim.Native.Nat.{◌-◌, ◌≤◌}
 use lib.ListN.{length, drop}
-use Rattle.tables.specs.Below.{every}
-use Rattle.slots.specs.Key.{with_bit, with_bits, with_bytes, crc16}
+use Rattle.slots.specs.Key.{with_bytes, crc16}
 use Rattle.slots.specs.Table.{ByHalfByte}
-use Rattle.slots.proofs.Crc.{entry_of, entries_right, by_half_byte, two_more, last_one, no_more}
-use borrow.Author.Rules.{rules}
 use Rattle.slots.proofs.crc16.Given as goal
 
 abbrev pub invariant-loop-i : goal.invariant-loop-i

@@ -1,6 +1,5 @@
 -- `slots::key_slot`: the two calls, and the remainder.
 use Rattle.slots.specs.Key.{key_slot}
-use borrow.Author.Rules.{rules}
 use Rattle.slots.proofs.key_slot.Goals as goal
 
 pub returns : goal.returns

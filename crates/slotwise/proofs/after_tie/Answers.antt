@@ -10,7 +10,6 @@ use Rattle.tables.proofs.Checks.{part}
 use Rattle.state.specs.Changes.{with_current}
 use Rattle.slotwise.specs.Slotwise.{tie_checks, after_tie}
 use Rattle.slotwise.proofs.Steps.{new_epoch}
-use borrow.Author.Rules.{rules}
 use Rattle.slotwise.proofs.after_tie.Goals as goal
 
 pub returns-else-gives_way : goal.returns-else-gives_way

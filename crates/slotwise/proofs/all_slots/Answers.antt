@@ -2,12 +2,11 @@
 use mathlib.Core.Path.{◌≡◌, refl, sym, ◌∙◌}
 use mathlib.Core.Bool.{true}
 use Prim.Native.Nat.{◌-◌, ◌<◌}
-use lib.ListN.{length, get_or, length-map}
+use lib.ListN.{length, get_or}
 use Rattle.state.specs.Node.{record_at}
 use Rattle.slotwise.specs.Slotwise.{is_claimed}
-use Rattle.slotwise.proofs.Turns.{known_there, Goes, starts, unclaimed, binds, own, rebinds, tells, keeps, ends}
+use Rattle.slotwise.proofs.Turns.{known_there, starts, unclaimed, binds, own, rebinds, tells, keeps, ends}
 use native.Mathlib.Omega.{arith}
-use borrow.Author.Rules.{rules}
 use Rattle.slotwise.proofs.all_slots.Goals as goal
 
 pub loop-s-init : goal.loop-s-init

@@ -1,12 +1,8 @@
 -- `slotwise::all_slots` meets its contract: each is one case of the definition's.
-use mathlib.Core.Path.{◌≡◌, refl, sym, ◌∙◌}
-use mathlib.Core.Bool.{true}
-use Prim.Native.Nat.{◌-◌, ◌<◌}
-use lib.ListN.{length, get_or, length-map}
-use Rattle.state.specs.Node.{record_at}
-use Rattle.slotwise.specs.Slotwise.{is_claimed}
-use Rattle.slotwise.proofs.Turns.{known_there, Goes, starts, unclaimed, binds, own, rebinds, tells, keeps, ends}
-use borrow.Author.Rules.{rules}
+use mathlib.Core.Path.{◌≡◌}
+use Prim.Native.Nat.{◌-◌}
+use lib.ListN.{length}
+use Rattle.slotwise.proofs.Turns.{Goes}
 use Rattle.slotwise.proofs.all_slots.Given as goal
 
 abbrev pub invariant-loop-s : goal.invariant-loop-s

@@ -1,5 +1,4 @@
 -- `slotwise::first_of` meets its contract.
-use borrow.Author.Rules.{rules}
 use Rattle.slotwise.proofs.first_of.Goals as goal
 
 pub returns-in-Nothing : goal.returns-in-Nothing

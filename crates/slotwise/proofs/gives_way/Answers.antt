@@ -3,7 +3,6 @@ use mathlib.Core.Path.{◌≡◌, sym, ◌∙◌}
 use mathlib.Core.Bool.{true}
 use borrow.Author.Tests.{eq-eqb, ne_eqb, lt-ltb, le-ltb}
 use Rattle.state.specs.Node.{master_at}
-use borrow.Author.Rules.{rules}
 use Rattle.slotwise.proofs.gives_way.Goals as goal
 
 pub returns-else-master_at : goal.returns-else-master_at

@@ -1,7 +1,6 @@
 -- `slotwise::heartbeat` meets its contract: its steps one after the other.
 use Rattle.slotwise.specs.Slotwise.{plain_heartbeat}
 use Rattle.slotwise.proofs.Steps.{of_master}
-use borrow.Author.Rules.{rules}
 use Rattle.slotwise.proofs.heartbeat.Goals as goal
 
 pub returns-in-Replica : goal.returns-in-Replica

@@ -1,7 +1,6 @@
 -- `slotwise::is_claimed` meets its contract: past the end every bit is 0.
 use mathlib.Core.Path.{sym}
 use Rattle.tables.proofs.Bitmap.{past_the_end}
-use borrow.Author.Rules.{rules}
 use Rattle.slotwise.proofs.is_claimed.Goals as goal
 
 pub returns-then-s-bitmap : goal.returns-then-s-bitmap

@@ -1,7 +1,6 @@
 -- `slotwise::master_at` meets its contract.
 use mathlib.Core.Path.{◌∙◌}
 use borrow.Author.Tests.{lt-ltb, le-ltb}
-use borrow.Author.Rules.{rules}
 use Rattle.slotwise.proofs.master_at.Goals as goal
 
 pub returns-then-k-node : goal.returns-then-k-node

@@ -1,7 +1,6 @@
 -- `slotwise::raised` meets its contract: the configEpoch rises, or the node is as it was.
 use mathlib.Core.Path.{◌∙◌}
 use borrow.Author.Tests.{lt-ltb, le-ltb}
-use borrow.Author.Rules.{rules}
 use Rattle.slotwise.proofs.raised.Goals as goal
 
 pub returns-then-known-config : goal.returns-then-known-config

@@ -1,10 +1,8 @@
 -- `slotwise::record_at` meets its contract: past the records nothing is known.
-use mathlib.Core.Path.{◌≡◌, refl, sym, ◌∙◌}
+use mathlib.Core.Path.{refl, sym}
 use native.Mathlib.Omega.{arith}
-use lib.ListN.{length, length-map, get_or-eq_default}
-use Rattle.tables.specs.Sizes.{node_room}
+use lib.ListN.{get_or-eq_default}
 use Rattle.state.specs.Node.{blank}
-use borrow.Author.Rules.{rules}
 use Rattle.slotwise.proofs.record_at.Goals as goal
 
 pub returns-then-k-lt-NODES : goal.returns-then-k-lt-NODES

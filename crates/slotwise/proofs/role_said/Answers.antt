@@ -1,6 +1,5 @@
 -- `slotwise::role_said` meets its contract.
 use mathlib.Core.Path.{◌∙◌}
-use borrow.Author.Rules.{rules}
 use Rattle.slotwise.proofs.role_said.Goals as goal
 
 pub returns : goal.returns

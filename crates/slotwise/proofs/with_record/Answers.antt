@@ -1,13 +1,10 @@
 -- `slotwise::with_record` meets its contract: a number past the records has no place to store to.
-use mathlib.Core.Path.{◌≡◌, refl, sym, ap, ◌∙◌}
+use mathlib.Core.Path.{refl, sym, ap}
 use mathlib.Core.List.{List}
 use native.Mathlib.Omega.{arith}
-use lib.ListN.{length, length-map}
 use lib.Seq.{set_out}
-use Rattle.tables.specs.Sizes.{node_room}
 use Rattle.state.specs.Changes.{with_records}
 use Rattle.state.specs.declared.Record.{Record}
-use borrow.Author.Rules.{rules}
 use Rattle.slotwise.proofs.with_record.Goals as goal
 
 pub returns-then-k-lt-NODES : goal.returns-then-k-lt-NODES

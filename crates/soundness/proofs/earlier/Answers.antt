@@ -1,8 +1,8 @@
 -- `soundness::earlier` meets its contract.
-use mathlib.Core.Path.{◌≡◌, refl, sym, ◌∙◌}
+use mathlib.Core.Path.{refl, sym, ◌∙◌}
 use Prim.Native.Nat.{◌-◌, ◌≤◌}
 use native.Mathlib.Omega.{arith}
-use lib.ListN.{length, drop, length-map, drop_of_length-le}
+use lib.ListN.{length, drop_of_length-le}
 use borrow.Author.Rules.{rules}
 use Rattle.soundness.proofs.Order.{less_at, more_at, same_at}
 use Rattle.soundness.specs.Sound.{before}

@@ -1,10 +1,7 @@
 -- `soundness::earlier` meets its contract.
-use mathlib.Core.Path.{◌≡◌, refl, sym, ◌∙◌}
+use mathlib.Core.Path.{◌≡◌}
 use Prim.Native.Nat.{◌-◌, ◌≤◌}
-use native.Mathlib.Omega.{arith}
-use lib.ListN.{length, drop, length-map, drop_of_length-le}
-use borrow.Author.Rules.{rules}
-use Rattle.soundness.proofs.Order.{less_at, more_at, same_at}
+use lib.ListN.{drop}
 use Rattle.soundness.specs.Sound.{before}
 use Rattle.soundness.proofs.earlier.Given as goal
 

@@ -1,5 +1,4 @@
 -- `soundness::flag_sound` meets its contract.
-use borrow.Author.Rules.{rules}
 use Rattle.soundness.proofs.flag_sound.Goals as goal
 
 pub returns-in-Fail : goal.returns-in-Fail

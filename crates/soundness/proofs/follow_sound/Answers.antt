@@ -1,6 +1,5 @@
 -- `soundness::follow_sound` meets its contract.
 use borrow.Author.Tests.{lt-ltb, le-ltb}
-use borrow.Author.Rules.{rules}
 use Rattle.soundness.proofs.follow_sound.Goals as goal
 
 pub returns-then-followed-size : goal.returns-then-followed-size

@@ -1,6 +1,5 @@
 -- `soundness::mark_sound` meets its contract.
 use borrow.Author.Tests.{lt-ltb, le-ltb}
-use borrow.Author.Rules.{rules}
 use Rattle.soundness.proofs.mark_sound.Goals as goal
 
 pub returns-then-mark-ge-SLOTS : goal.returns-then-mark-ge-SLOTS

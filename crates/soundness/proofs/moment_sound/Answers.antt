@@ -1,5 +1,4 @@
 -- `soundness::moment_sound` meets its contract.
-use borrow.Author.Rules.{rules}
 use Rattle.soundness.proofs.moment_sound.Goals as goal
 
 pub returns-in-At : goal.returns-in-At

@@ -1,5 +1,4 @@
 -- `soundness::own_clear` meets its contract.
-use borrow.Author.Rules.{rules}
 use Rattle.soundness.specs.Sound.{own_clear}
 use Rattle.soundness.proofs.own_clear.Goals as goal
 

@@ -1,8 +1,6 @@
 -- `spelling::decode`: after n turns n bytes are decoded, and the digits that are left stand untouched.
 use Prim.Native.Nat.{◌-◌}
-use lib.ListN.{length}
-use Rattle.spelling.proofs.Lines.{Decoded, start, high_stops, low_stops, turn, odd_stops, whole, room}
-use borrow.Author.Rules.{rules}
+use Rattle.spelling.proofs.Lines.{start, high_stops, low_stops, turn, odd_stops, whole, room}
 use Rattle.spelling.proofs.decode.Goals as goal
 
 pub loop-n-init : goal.loop-n-init

@@ -1,7 +1,6 @@
 -- `spelling::digit`: each way out by the tests that led to it.
 use borrow.Author.Tests.{le-leb, le-ltb, lt-leb, lt-ltb}
 use Rattle.spelling.specs.Lines.{digit_of}
-use borrow.Author.Rules.{rules}
 use Rattle.spelling.proofs.digit.Goals as goal
 
 pub returns-then-c-lt48 : goal.returns-then-c-lt48

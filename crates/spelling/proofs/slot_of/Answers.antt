@@ -1,10 +1,4 @@
 -- `spelling::slot_of`: the key that was decoded, if any, has its slot.
-use mathlib.Core.Path.{sym}
-use Prim.Native.Nat.{◌≤◌}
-use lib.ListN.{length}
-use lib.Seq.{length-take-le}
-use Rattle.spelling.proofs.Lines.{within_key}
-use borrow.Author.Rules.{rules}
 use Rattle.spelling.proofs.slot_of.Goals as goal
 
 pub returns-in_default : goal.returns-in_default

@@ -1,9 +1,8 @@
 -- `state::masters` meets its contract: the masters among the records passed.
 use mathlib.Core.Path.{sym, subst, ◌∙◌}
-use Prim.Native.Nat.{◌+◌, ◌-◌, ◌≤◌}
+use Prim.Native.Nat.{◌+◌, ◌-◌}
 use native.Mathlib.Omega.{arith}
 use borrow.Author.Tests.{lt-ltb, le-ltb}
-use Rattle.nodesets.specs.declared.NodeSet.{NodeSet}
 use Rattle.nodesets.proofs.Gathered.{Gathered, at_first, with_it, without_it, at_last}
 use Rattle.state.specs.Node.{master_at}
 use borrow.Author.Rules.{rules}

@@ -1,10 +1,7 @@
 -- `tables::first_byte`: from each place on, the search of the rest is the search of the whole.
-use mathlib.Core.Path.{◌≡◌, refl, sym, ◌∙◌}
-use Prim.Native.Nat.{ℕ, ◌-◌, ◌≤◌}
-use lib.Dec.{eqb}
-use lib.ListN.{length, drop}
+use mathlib.Core.Path.{refl, sym, ◌∙◌}
+use Prim.Native.Nat.{◌-◌}
 use borrow.Author.Tests.{eq-eqb, ne_eqb}
-use Rattle.tables.specs.Lists.{first_from, first_byte}
 use Rattle.tables.proofs.Walks.{first_here, first_past, first_ended}
 use borrow.Author.Rules.{rules}
 use Rattle.tables.proofs.first_byte.Goals as goal

@@ -1,9 +1,7 @@
 -- `tables::occurs`: in the stretches passed it does not stand, so the search of the rest is the search of the whole.
-use mathlib.Core.Path.{◌≡◌, refl, sym, ◌∙◌}
-use Prim.Native.Nat.{◌+◌, ◌-◌, ◌≤◌}
+use mathlib.Core.Path.{refl, sym, ◌∙◌}
+use Prim.Native.Nat.{◌-◌}
 use native.Mathlib.Omega.{arith}
-use lib.ListN.{length, drop}
-use Rattle.tables.specs.Lists.{occurs}
 use Rattle.tables.proofs.Walks.{occurs_there, occurs_behind, occurs_onwards}
 use borrow.Author.Rules.{rules}
 use Rattle.tables.proofs.occurs.Goals as goal

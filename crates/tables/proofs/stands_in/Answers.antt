@@ -1,11 +1,8 @@
 -- `tables::stands_in`: what was found so far, or stands in the rest.
-use mathlib.Core.Path.{◌≡◌, refl, sym, ap, ◌∙◌}
+use mathlib.Core.Path.{refl, sym, ap, ◌∙◌}
 use mathlib.Core.Bool.{Bool, ◌||◌, or-false, or_assoc}
 use Prim.Native.Nat.{◌-◌}
-use lib.ListN.{length, drop}
-use Rattle.tables.specs.Lists.{occurs}
 use Rattle.tables.proofs.Walks.{occurs_turn, occurs_ended}
-use borrow.Author.Rules.{rules}
 use Rattle.tables.proofs.stands_in.Goals as goal
 
 pub loop-i-init : goal.loop-i-init

@@ -1,11 +1,9 @@
 -- `tables::stands_in`: what was found so far, or stands in the rest.
-use mathlib.Core.Path.{◌≡◌, refl, sym, ap, ◌∙◌}
-use mathlib.Core.Bool.{Bool, ◌||◌, or-false, or_assoc}
+use mathlib.Core.Path.{◌≡◌}
+use mathlib.Core.Bool.{◌||◌}
 use Prim.Native.Nat.{◌-◌}
 use lib.ListN.{length, drop}
 use Rattle.tables.specs.Lists.{occurs}
-use Rattle.tables.proofs.Walks.{occurs_turn, occurs_ended}
-use borrow.Author.Rules.{rules}
 use Rattle.tables.proofs.stands_in.Given as goal
 
 abbrev pub invariant-loop-i : goal.invariant-loop-i

@@ -3,7 +3,6 @@ use mathlib.Core.Path.{◌≡◌, sym, ap, ◌∙◌}
 use borrow.Author.Tests.{lt-ltb, le-ltb}
 use Rattle.state.specs.Node.{record_at, followed}
 use Rattle.state.specs.declared.Role.{Role}
-use borrow.Author.Rules.{rules}
 use Rattle.votes.proofs.follows_master.Goals as goal
 
 pub returns-then-m-node : goal.returns-then-m-node

@@ -1,7 +1,6 @@
 -- `votes::is_voting` meets its contract.
 use mathlib.Core.Path.{sym, ◌∙◌}
 use borrow.Author.Tests.{lt-ltb, le-ltb}
-use borrow.Author.Rules.{rules}
 use Rattle.votes.proofs.is_voting.Goals as goal
 
 pub returns-then-node : goal.returns-then-node

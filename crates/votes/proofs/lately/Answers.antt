@@ -1,7 +1,6 @@
 -- `votes::lately` meets its contract.
 use mathlib.Core.Path.{ap, ◌∙◌}
 use Rattle.ages.specs.Ages.{under_twice}
-use borrow.Author.Rules.{rules}
 use Rattle.votes.proofs.lately.Goals as goal
 
 pub returns-in-Never : goal.returns-in-Never

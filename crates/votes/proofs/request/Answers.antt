@@ -2,7 +2,7 @@
 use mathlib.Core.Path.{◌≡◌, refl, sym, ap, ◌∙◌}
 use Prim.Native.Nat.{ℕ, ◌-◌, ◌≤◌, ◌<◌}
 use native.Mathlib.Omega.{arith}
-use lib.ListN.{length, length-map}
+use lib.ListN.{length}
 use Rattle.tables.specs.Lists.{first_at}
 use Rattle.tables.specs.Sizes.{node_room}
 use Rattle.answers.specs.declared.Answer.TheVariants.{Granted}
@@ -12,10 +12,9 @@ use Rattle.state.specs.Changes.{with_records, with_voted}
 use Rattle.state.specs.Outcomes.{answered}
 use Rattle.state.specs.declared.Node.{Node}
 use Rattle.records.specs.Known.{known_configs}
-use Rattle.records.proofs.Known.{Collected, collected_none, collected_more, collected_all, place_inside, listed_inside, known_there}
+use Rattle.records.proofs.Known.{collected_none, collected_more, collected_all, place_inside, listed_inside, known_there}
 use Rattle.votes.specs.Votes.{newer, granted, by_owners, requested}
 use Rattle.votes.proofs.Steps.{by_checks, by_records, passed, granted_there}
-use borrow.Author.Rules.{rules}
 use Rattle.votes.proofs.request.Goals as goal
 
 pub offset_bounds-next-own : goal.offset_bounds-next-own

@@ -1,6 +1,5 @@
 -- `votes::role_of` meets its contract.
 use borrow.Author.Tests.{lt-ltb, le-ltb}
-use borrow.Author.Rules.{rules}
 use Rattle.votes.proofs.role_of.Goals as goal
 
 pub returns-then-k-node : goal.returns-then-k-node

@@ -2,7 +2,6 @@
 use Prim.Native.Nat.{ℕ}
 use native.Mathlib.Omega.{arith}
 use lib.ListN.{get_or-eq_default}
-use borrow.Author.Rules.{rules}
 use Rattle.walking.proofs.first_of.Goals as goal
 
 pub returns-then-text-eq0 : goal.returns-then-text-eq0

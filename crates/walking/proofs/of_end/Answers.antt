@@ -1,5 +1,4 @@
 -- `walking::of_end` meets its contract.
-use borrow.Author.Rules.{rules}
 use Rattle.walking.proofs.of_end.Goals as goal
 
 pub returns-in-Served : goal.returns-in-Served

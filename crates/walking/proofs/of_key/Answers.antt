@@ -1,5 +1,4 @@
 -- `walking::of_key` meets its contract.
-use borrow.Author.Rules.{rules}
 use Rattle.walking.proofs.of_key.Goals as goal
 
 pub returns : goal.returns

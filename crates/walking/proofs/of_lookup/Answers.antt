@@ -1,5 +1,4 @@
 -- `walking::of_lookup` meets its contract.
-use borrow.Author.Rules.{rules}
 use Rattle.walking.proofs.of_lookup.Goals as goal
 
 pub returns : goal.returns

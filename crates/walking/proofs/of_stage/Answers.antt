@@ -1,5 +1,4 @@
 -- `walking::of_stage` meets its contract.
-use borrow.Author.Rules.{rules}
 use Rattle.walking.proofs.of_stage.Goals as goal
 
 pub returns-then-question : goal.returns-then-question

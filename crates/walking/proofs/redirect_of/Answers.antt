@@ -1,6 +1,5 @@
 -- `walking::redirect_of` meets its contract.
 use borrow.Author.Tests.{eq-eqb, ne_eqb}
-use borrow.Author.Rules.{rules}
 use Rattle.walking.proofs.redirect_of.Goals as goal
 
 pub returns-then-kind-eq0 : goal.returns-then-kind-eq0

@@ -1,11 +1,7 @@
 -- `walking::ukweribaso_lookup`: the replies that are left come to what all of them do.
-use mathlib.Core.Path.{◌≡◌, refl, sym, ◌∙◌}
+use mathlib.Core.Path.{refl, sym, ◌∙◌}
 use Prim.Native.Nat.{◌-◌}
-use native.Mathlib.Omega.{arith}
-use lib.ListN.{length, drop}
-use Rattle.cache.specs.Cache.{map_of}
-use Rattle.walking.specs.Walking.{walked, digested}
-use Rattle.walking.proofs.Walks.{at_first, here, one_less, none_left}
+use Rattle.walking.proofs.Walks.{at_first, one_less, none_left}
 use borrow.Author.Rules.{rules}
 use Rattle.walking.proofs.ukweribaso_lookup.Goals as goal
 

@@ -1,6 +1,5 @@
 -- `wins::own_role` meets its contract.
 use borrow.Author.Tests.{lt-ltb, le-ltb}
-use borrow.Author.Rules.{rules}
 use Rattle.wins.proofs.own_role.Goals as goal
 
 pub returns-then-me-size : goal.returns-then-me-size

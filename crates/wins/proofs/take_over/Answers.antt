@@ -4,7 +4,6 @@ use mathlib.Core.Bool.{false}
 use borrow.Author.Tests.{lt-ltb}
 use Rattle.wins.specs.Wins.{passes}
 use Rattle.wins.proofs.Passing.{none_handed_over, none_pass}
-use borrow.Author.Rules.{rules}
 use Rattle.wins.proofs.take_over.Goals as goal
 
 pub returns-then-config-epoch : goal.returns-then-config-epoch

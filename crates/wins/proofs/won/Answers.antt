@@ -1,13 +1,12 @@
 -- `wins::won` meets its contract: records by their places, so that a number past them needs no case of its own.
-use mathlib.Core.Path.{◌≡◌, refl, sym, ap₂, ◌∙◌}
+use mathlib.Core.Path.{◌≡◌, refl, ap₂, ◌∙◌}
 use Prim.Native.Nat.{◌<◌}
 use native.Mathlib.Omega.{arith}
-use lib.ListN.{length, length-map}
+use lib.ListN.{length}
 use Rattle.tables.specs.Sizes.{node_room}
 use Rattle.state.specs.Changes.{with_records}
 use Rattle.records.proofs.Known.{place_inside}
 use Rattle.wins.proofs.Passing.{won_with, passing_there, promoted_there}
-use borrow.Author.Rules.{rules}
 use Rattle.wins.proofs.won.Goals as goal
 
 pub offset_bounds-next-own : goal.offset_bounds-next-own

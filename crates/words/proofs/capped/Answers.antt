@@ -1,7 +1,6 @@
 -- `words::capped` meets its contract.
 use native.Mathlib.Omega.{arith}
 use borrow.Author.Tests.{lt-ltb, le-ltb}
-use borrow.Author.Rules.{rules}
 use Rattle.words.proofs.capped.Goals as goal
 
 pub returns-then-v-gt-MOST : goal.returns-then-v-gt-MOST

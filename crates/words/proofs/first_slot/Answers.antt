@@ -2,7 +2,6 @@
 use mathlib.Core.Path.{sym}
 use lib.Seq.{length-take-le}
 use Rattle.words.specs.Numbers.{first_slot}
-use borrow.Author.Rules.{rules}
 use Rattle.words.proofs.first_slot.Goals as goal
 
 pub slice_bounds-value-end : goal.slice_bounds-value-end

@@ -1,6 +1,5 @@
 -- `words::is_range` meets its contract.
 use Rattle.words.specs.Numbers.{is_range}
-use borrow.Author.Rules.{rules}
 use Rattle.words.proofs.is_range.Goals as goal
 
 pub returns : goal.returns

@@ -3,7 +3,6 @@ use native.Mathlib.Omega.{arith}
 use Prim.Native.Nat.{◌+◌, ◌≤◌, ◌<◌}
 use Rattle.words.specs.Numbers.{most}
 use borrow.Author.Tests.{lt-ltb, le-ltb}
-use borrow.Author.Rules.{rules}
 use Rattle.words.proofs.kept.Goals as goal
 
 pub returns-then-time-lt-MOST : goal.returns-then-time-lt-MOST

@@ -2,7 +2,6 @@
 use borrow.Author.Tests.{lt-ltb, le-ltb}
 use Rattle.words.specs.Numbers.{last_slot}
 use Rattle.words.proofs.Numbers.{behind}
-use borrow.Author.Rules.{rules}
 use Rattle.words.proofs.last_slot.Goals as goal
 
 pub returns-then-dash-range : goal.returns-then-dash-range

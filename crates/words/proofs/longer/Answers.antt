@@ -1,7 +1,6 @@
 -- `words::longer` meets its contract.
 use native.Mathlib.Omega.{arith}
 use borrow.Author.Tests.{le-leb, lt-leb}
-use borrow.Author.Rules.{rules}
 use Rattle.words.proofs.longer.Goals as goal
 
 pub returns-then-c-lt48 : goal.returns-then-c-lt48

@@ -1,6 +1,5 @@
 -- `words::number`: each part is the callee's.
 use Rattle.words.specs.Numbers.{number_of}
-use borrow.Author.Rules.{rules}
 use Rattle.words.proofs.number.Goals as goal
 
 pub returns : goal.returns

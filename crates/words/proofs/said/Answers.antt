@@ -1,7 +1,6 @@
 -- `words::said` meets its contract.
 use mathlib.Core.Path.{sym}
 use lib.Seq.{length-take-le}
-use borrow.Author.Rules.{rules}
 use Rattle.words.proofs.said.Goals as goal
 
 pub slice_bounds-result-end : goal.slice_bounds-result-end

@@ -5,7 +5,6 @@ use Rattle.tables.specs.declared.Found.TheVariants.{At}
 use Rattle.tables.proofs.Walks.{first_within}
 use Rattle.tables.specs.Lists.{first_byte}
 use Rattle.words.specs.Words.{up_to}
-use borrow.Author.Rules.{rules}
 use Rattle.words.proofs.up_to.Goals as goal
 
 pub returns-in-Nothing : goal.returns-in-Nothing

@@ -1,11 +1,8 @@
 -- `words::value`: what is left to read is the characters from place i on.
-use mathlib.Core.Path.{◌≡◌, sym, ◌∙◌}
-use Prim.Native.Nat.{◌-◌, ◌≤◌}
+use mathlib.Core.Path.{sym, ◌∙◌}
+use Prim.Native.Nat.{◌-◌}
 use native.Mathlib.Omega.{arith}
-use lib.ListN.{length, drop}
-use Rattle.words.specs.Numbers.{value_from}
 use Rattle.words.proofs.Numbers.{no_word, some_word, one_more, value_ended}
-use borrow.Author.Rules.{rules}
 use Rattle.words.proofs.value.Goals as goal
 
 pub returns-then-word-eq0 : goal.returns-then-word-eq0

@@ -1,0 +1,10 @@
+-- `calls::word_of` ends, and stays within the text.
+use Prim.Native.Nat.{◌≤◌}
+use lib.ListN.{length}
+use Rattle.calls.proofs.word_of.Given as goal
+
+abbrev pub invariant-loop-left : goal.invariant-loop-left
+invariant-loop-left l = l.at ≤ length l.text
+
+abbrev pub decreases-loop-left : goal.decreases-loop-left
+decreases-loop-left l = l.left

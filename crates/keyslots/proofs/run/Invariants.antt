@@ -1,0 +1,10 @@
+-- `keyslots::run`: the measure is the number of turns that are left.
+use mathlib.Core.Path.{◌≡◌}
+use lib.ListN.{length}
+use Rattle.keyslots.proofs.run.Given as goal
+
+abbrev pub invariant-loop-turns : goal.invariant-loop-turns
+invariant-loop-turns g l = (length l.buf ≡ length l.initial.buf) × (length l.out ≡ length l.initial.out)
+
+abbrev pub decreases-loop-turns : goal.decreases-loop-turns
+decreases-loop-turns g l = l.turns
