@@ -1,5 +1,7 @@
 // The node of document 01's cases: a frame a line on standard input, in lowercase hexadecimal, and for each line the
 // answer, currentEpoch and lastVoteEpoch on standard output. The input is fed in pieces, as they are read.
+#![tactic(auto)]
+
 ghost use Rattle.std.specs.Prelude.{◌≡◌, length, take, IfOk};
 ghost use Rattle.io.specs.Counts.{clamp_len};
 ghost use Rattle.feed.specs.Feed.{station};
@@ -106,7 +108,14 @@ fn turn<R: Read>(
 }
 
 // A proved loop has to end, and nothing says that the input does, so it counts down from a number that no run uses up.
-fn run<R: Read>(rt: &impl Print, input: &mut R, slots: &mut [u16], reports: &mut [u64], buf: &mut [u8], out: &mut [u8]) -> Result<()> {
+fn run<R: Read>(
+    rt: &impl Print,
+    input: &mut R,
+    slots: &mut [u16],
+    reports: &mut [u64],
+    buf: &mut [u8],
+    out: &mut [u8],
+) -> Result<()> {
     let mut held = Held {
         node: cases::node(),
         kept: scraps::none(),
@@ -130,5 +139,12 @@ fn main(rt: HostRuntime) -> Result<()> {
     let mut reports = [0u64; tables::REPORTS];
     let mut buf = [0u8; PIECE];
     let mut out = [0u8; TEXT];
-    run(&rt, &mut rt.reader(), &mut slots, &mut reports, &mut buf, &mut out)
+    run(
+        &rt,
+        &mut rt.reader(),
+        &mut slots,
+        &mut reports,
+        &mut buf,
+        &mut out,
+    )
 }
