@@ -4,35 +4,32 @@
 
 say() { printf '%s: %s\n' "$name" "$*" >&2; }
 
-# The crates that one needs, itself among them, in the order in which rt proves them.
+# The crates that one needs, itself the last, in the order in which rt proves them.
 needs() {
     awk -v wanted="$1" '
-        function visit(crate,    needed, count, k, level) {
-            if (crate in levels) return
+        function visit(crate,    needed, count, k) {
+            if (crate in visited) return
+            visited[crate]
             count = split(needs[crate], needed, " ")
-            level = 0
-            for (k = 1; k <= count; k++) if (needed[k] in needs) {
-                visit(needed[k])
-                if (levels[needed[k]] >= level) level = levels[needed[k]] + 1
-            }
-            levels[crate] = level
-            print level, crate
+            for (k = 1; k <= count; k++) if (needed[k] in needs) visit(needed[k])
+            print crate
         }
         { sub(/#.*/, "") }
-        /:/ { crate = $0; sub(/:.*/, "", crate); gsub(/[ \t]/, "", crate); needs[crate] = substr($0, index($0, ":") + 1) }
-        END { visit(wanted) }' "$root/crates.txt" | sort -s -n -k 1,1 | cut -d ' ' -f 2
+        /:/ { split($0, words, /[: \t]+/); needs[words[1]] = substr($0, index($0, ":") + 1) }
+        END { visit(wanted) }' "$root/crates.txt"
 }
 
-# Every second: the first crate that is not proved. rt takes a crate's stamp away before it proves it, and gives it one after.
-# Nothing that it starts may hold the command's own output open.
+# Every second: the first crate that is not proved. rt takes a crate's stamp away before it proves it, and gives it one after; the
+# crate NAME itself, which is the last, has one if it is a program. Nothing that this starts may hold the command's own output open.
 report() {
     crates=$(needs "$name") told=''
     count=$(printf '%s\n' "$crates" | wc -l)
     while sleep 1 2>/dev/null; do
         number=0
         for crate in $crates; do
-            number=$((number + 1))
-            if [ ! -f "$root/target/stamp/$crate" ]; then
+            number=$((number + 1)) stamp=$root/crates/$crate/out/rlib/stamp
+            [ "$crate" != "$name" ] || stamp=$made
+            if [ ! -f "$stamp" ]; then
                 [ -n "$told" ] || say "not built yet; it is proved first, which takes some minutes (log: $log)"
                 [ "$told" = "$crate" ] || say "proving $number of $((count)): $crate"
                 told=$crate
@@ -40,6 +37,16 @@ report() {
             fi
         done
     done
+}
+
+# What a static library was made from, and what it is. rt makes one anew whenever it is asked, so it is asked where this has changed.
+sums() {
+    rt version
+    (
+        cd "$root/crates" || exit
+        cksum ../crates.txt "$name/out/lib$name.a"
+        for crate in $(needs "$name"); do find "$crate/src" "$crate/specs" "$crate/proofs" -type f -exec cksum {} + | sort; done
+    ) 2>/dev/null
 }
 
 # A signal ends rt and all that it began, as rt's own provers would go on after an interrupt.
@@ -52,15 +59,21 @@ ended() { # SIGNAL
     kill -s "$1" $$
 }
 
-# Runs `rt WORDS` for the crate NAME, quietly but for what is being proved; ends the command where rt fails.
-prove() { # NAME WORDS..
-    name=$1 log=$root/target/$1.log status=0
-    shift
+# Runs `rt WORD` for the crate NAME, quietly but for what is being proved; ends the command where rt fails. `rt run` proves and builds
+# a program and then runs it, on no input here; `rt lib` proves and builds a static library.
+prove() { # NAME WORD
+    name=$1 log=$root/out/$1.log status=0
+    made=$root/crates/$1/out/$1.stamp
+    [ "$2" = run ] || made=$root/crates/$1/out/lib$1.a
     command -v rt >/dev/null || { say 'needs rt, the command of the Rattle kit, on PATH'; exit 127; }
-    mkdir -p "$root/target"
-    exec 8>"$root/target/start.lock"
+    mkdir -p "$root/out"
+    exec 8>"$root/out/start.lock"
     if command -v flock >/dev/null; then
         flock -w 5 8 || { say 'another command is proving; waiting for it'; flock 8; }
+    fi
+    if [ "$2" = lib ]; then
+        [ ! -f "$made" ] || [ "$(sums)" != "$(cat "$root/out/$name.sums" 2>/dev/null)" ] || { exec 8>&-; return; }
+        rm -f "$made" "$root/out/$name.sums"
     fi
     reporter='' prover=''
     for signal in HUP INT TERM; do
@@ -70,15 +83,18 @@ prove() { # NAME WORDS..
     report >/dev/null 8>&- &
     reporter=$!
     # shellcheck disable=SC2046
-    (cd "$root" && exec $(command -v setsid) rt "$@") >"$log" 2>&1 </dev/null &
+    (cd "$root/crates/$name" && exec $(command -v setsid) rt "$2") >"$log" 2>&1 </dev/null &
     prover=$!
     wait "$prover" || status=$?
     trap - HUP INT TERM
     kill "$reporter" 2>/dev/null || true
     wait "$reporter" 2>/dev/null || true
+    # Of a program that has been run the status is its own.
+    [ "$2" = lib ] || ! grep -q '^rt: running ' "$log" || status=0
+    [ "$2" = run ] || [ "$status" -ne 0 ] || sums >"$root/out/$name.sums"
     exec 8>&-
     [ "$status" -eq 0 ] || {
-        grep '^rt: ' "$log" | grep -v ' proved (' >&2 || true
+        grep -e '^rt: ' -e ': error: ' -e ': no proof' "$log" | grep -v -e ': begins with ' -e '^rt: chose ' >&2 || true
         say "not proved, so nothing is run; the log is $log"
         exit "$status"
     }
@@ -86,8 +102,8 @@ prove() { # NAME WORDS..
 
 # Proves and builds the program NAME, if that is not done yet, and becomes it.
 start() { # NAME WORDS..
-    prove "$1" check "$1"
-    program=$root/target/bin/$1
+    prove "$1" run
+    program=$root/crates/$1/out/$1
     shift
     exec "$program" "$@"
 }

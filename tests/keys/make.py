@@ -5,9 +5,8 @@
     python3 tests/keys/make.py --seed 7 --to DIR   the same with other keys, into DIR
 
 The input is a key a line, in lowercase hexadecimal, with some lines that are no keys; the output the slot of each, or `bad`.
-`rt check keyslots` runs the program on the one and compares with the other; so does the gate. Nothing here is taken from the
-Rattle code: CRC16 is the bitwise one of the specification, and the hashed part goes by Python's `find`. The same seed gives
-the same files.
+The gate runs the program on the one and compares with the other. Nothing here is taken from the Rattle code: CRC16 is the
+bitwise one of the specification, and the hashed part goes by Python's `find`. The same seed gives the same files.
 """
 import argparse
 import random

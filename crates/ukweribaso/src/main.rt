@@ -2,7 +2,7 @@
 // answer, currentEpoch and lastVoteEpoch on standard output. The input is fed in pieces, as they are read.
 #![tactic(auto)]
 
-ghost use Rattle.std.specs.Prelude.{◌≡◌, length, take, IfOk};
+ghost use Rattle.std.specs.Prelude.{◌≡◌, length, take};
 ghost use Rattle.io.specs.Counts.{clamp_len};
 ghost use Rattle.feed.specs.Feed.{station};
 ghost use Rattle.streams.specs.Streams.{stream};
@@ -31,6 +31,14 @@ struct Held {
     going: bool,
 }
 
+// How much of the text waits after a write. One that fails goes unnoticed: the node takes in what it is fed all the same.
+fn waiting(written: Result<usize>) -> usize {
+    match written {
+        Ok(left) => left,
+        Err(_) => 0,
+    }
+}
+
 // Answers every line that ends in the piece, and leaves what its bytes leave one by one. An answer uses its line up, so
 // that nothing is kept then; to say so here saves copying back what a call leaves.
 fn answer_lines(
@@ -41,8 +49,8 @@ fn answer_lines(
     reports: &mut [u64],
     piece: &[u8],
     out: &mut [u8],
-) -> Result<Held>
-    ensures { IfOk result (λ held. station held.node slots.new reports.new held.kept ≡ (stream (station node slots.old reports.old kept) piece.now).after) }
+) -> Held
+    ensures { station result.node slots.new reports.new result.kept ≡ (stream (station node slots.old reports.old kept) piece.now).after }
 {
     let mut here = node;
     let mut rest = kept;
@@ -53,18 +61,18 @@ fn answer_lines(
         here = fed.node;
         let told = fed.told;
         let Told::Answered(answer) = told else {
-            lines::flush(rt, out, at)?;
+            waiting(lines::flush(rt, out, at));
             let kept = fed.kept;
-            return Ok(Held {
+            return Held {
                 node: here,
                 kept,
                 going: true,
-            });
+            };
         };
         rest.length = 0;
         from = from + fed.used;
         let text = printing::put_answer(out, at, answer, here.current, here.voted);
-        at = lines::drained(rt, out, text, FULL)?;
+        at = waiting(lines::drained(rt, out, text, FULL));
     }
 }
 
@@ -78,15 +86,15 @@ fn take_in(
     buf: &[u8],
     got: isize,
     out: &mut [u8],
-) -> Result<Held>
-    ensures { IfOk result (λ held. station held.node slots.new reports.new held.kept ≡ (stream (station node slots.old reports.old kept) (take (clamp_len got (length buf.now)) buf.now)).after) }
+) -> Held
+    ensures { station result.node slots.new reports.new result.kept ≡ (stream (station node slots.old reports.old kept) (take (clamp_len got (length buf.now)) buf.now)).after }
 {
     if got <= 0 {
-        return Ok(Held {
+        return Held {
             node,
             kept,
             going: false,
-        });
+        };
     }
     let n = io::count(got, buf);
     answer_lines(rt, node, kept, slots, reports, &buf[..n], out)
@@ -104,7 +112,7 @@ fn turn<R: Read>(
     out: &mut [u8],
 ) -> Result<Held> {
     let got = input.read(buf)? as isize;
-    take_in(rt, node, kept, slots, reports, buf, got, out)
+    Ok(take_in(rt, node, kept, slots, reports, buf, got, out))
 }
 
 // A proved loop has to end, and nothing says that the input does, so it counts down from a number that no run uses up.
