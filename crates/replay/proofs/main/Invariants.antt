@@ -1,6 +1,5 @@
 -- `replay::main` ends.
 use Prim.Native.Nat.{◌-◌}
-use borrow.Author.Rules.{rules}
 use Rattle.replay.proofs.main.Given as goal
 
 abbrev pub invariant-loop-i : goal.invariant-loop-i

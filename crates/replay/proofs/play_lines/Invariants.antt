@@ -1,9 +1,7 @@
 -- `replay::play_lines` ends, and its tables and buffers keep their lengths.
-use mathlib.Core.Path.{◌≡◌, refl}
-use Prim.Native.Nat.{ℕ, ◌-◌}
-use native.Mathlib.Omega.{arith}
-use lib.ListN.{length, length-replicate}
-use borrow.Author.Rules.{rules}
+use mathlib.Core.Path.{◌≡◌}
+use Prim.Native.Nat.{◌-◌}
+use lib.ListN.{length}
 use Rattle.replay.proofs.play_lines.Given as goal
 
 abbrev pub invariant-loop-k : goal.invariant-loop-k
