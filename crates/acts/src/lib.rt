@@ -1,5 +1,7 @@
 // What a line of `replay`'s file does to a node of the run (docs/REPLAY.md), by its form: the roster's lines and what the old code
 // writes into the tables, frames and pieces of a feed, openings, marks, keys, listings, and the node's line of the summary.
+#![tactic(auto)]
+
 ghost use Rattle.std.specs.Prelude.{◌≤◌, length};
 
 use answers::Answer;

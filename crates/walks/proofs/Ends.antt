@@ -9,7 +9,6 @@ use Rattle.seats.specs.declared.Seat.{Seat}
 use Rattle.calls.specs.declared.Call.{Call}
 use Rattle.lookups.specs.Keys.{slot_of}
 use Rattle.lookups.specs.Lookups.{at}
-use Rattle.lookups.specs.declared.Key.{Key}
 use Rattle.lookups.specs.declared.Question.{Question}
 use Rattle.lookups.specs.declared.End.{End}
 use Rattle.lookups.specs.declared.End.TheVariants.{Refused}

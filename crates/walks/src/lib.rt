@@ -1,4 +1,6 @@
 // A lookup of the gateway (document 02, [4] and [5]), walked over the nodes of a run and told: docs/REPLAY.md.
+#![tactic(auto)]
+
 ghost use Rattle.std.specs.Prelude.{◌≡◌, ◌%◌};
 ghost use Rattle.cache.specs.Cache.{map_of};
 ghost use Rattle.gateway.specs.Gateway.{asked};
