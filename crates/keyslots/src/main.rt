@@ -3,7 +3,6 @@
 
 use lines::Rest;
 use spelling::Reply;
-use std::io;
 use std::io::Read;
 use tables::Found;
 
@@ -64,22 +63,22 @@ fn answer_lines(
     seen: usize,
     end: usize,
     lost: bool,
-) -> io::Result<Feed> {
+) -> Feed {
     let mut at: usize = 0;
     let mut from: usize = 0;
     let mut look = seen;
     let mut skip = lost;
     loop {
         let Found::At(stop) = lines::line_end(buf, look, end) else {
-            lines::flush(rt, out, at)?;
-            return Ok(Feed {
+            lines::flush(rt, out, at);
+            return Feed {
                 rest: lines::unfinished(buf, from, end, skip),
                 going: true,
-            });
+            };
         };
         let reply = answer_at(buf, from, stop, skip);
         let text = put_reply(out, at, reply);
-        at = lines::drained(rt, out, text, FULL)?;
+        at = lines::drained(rt, out, text, FULL);
         from = stop + 1;
         look = stop + 1;
         skip = false;
@@ -93,26 +92,29 @@ fn turn<R: Read>(
     buf: &mut [u8],
     out: &mut [u8],
     rest: Rest,
-) -> io::Result<Feed> {
+) -> Feed {
     let kept = rest.kept;
     if kept >= buf.len() {
-        return Ok(Feed {
+        return Feed {
             rest: Rest {
                 kept: 0,
                 lost: true,
             },
             going: true,
-        });
+        };
     }
-    let n = input.read(&mut buf[kept..])?;
+    let n = match input.read(&mut buf[kept..]) {
+        Ok(n) => n,
+        Err(_) => 0,
+    };
     if n == 0 {
-        return Ok(Feed { rest, going: false });
+        return Feed { rest, going: false };
     }
     answer_lines(rt, buf, out, kept, kept + n, rest.lost)
 }
 
 // A proved loop has to end, and nothing says that the input does, so it counts down from a number that no run uses up.
-fn run<R: Read>(rt: &impl Print, input: &mut R, buf: &mut [u8], out: &mut [u8]) -> io::Result<()> {
+fn run<R: Read>(rt: &impl Print, input: &mut R, buf: &mut [u8], out: &mut [u8]) {
     let mut feed = Feed {
         rest: Rest {
             kept: 0,
@@ -123,17 +125,16 @@ fn run<R: Read>(rt: &impl Print, input: &mut R, buf: &mut [u8], out: &mut [u8]) 
     let mut turns = u64::MAX;
     while turns > 0 {
         let rest = feed.rest;
-        feed = turn(rt, input, buf, out, rest)?;
+        feed = turn(rt, input, buf, out, rest);
         if !feed.going {
-            return Ok(());
+            return;
         }
         turns -= 1;
     }
-    Ok(())
 }
 
-fn main(rt: HostRuntime) -> io::Result<()> {
+fn main(rt: HostRuntime) {
     let mut buf = [0u8; ROOM];
     let mut out = [0u8; TEXT];
-    run(&rt, &mut rt.reader(), &mut buf, &mut out)
+    run(&rt, &mut rt.reader(), &mut buf, &mut out);
 }

@@ -1,13 +1,13 @@
 // Lines of a text that comes in pieces, and numbers written behind a text: what the programs share.
 #![tactic(auto)]
 
-ghost use Rattle.std.specs.Prelude.{◌≡◌, false, [], ◌∷◌, IfOk};
+ghost use Rattle.std.specs.Prelude.{◌≡◌, false, [], ◌∷◌};
 ghost use Rattle.lines.specs.Lines.{line_end, unfinished, Kept};
 ghost use Rattle.lines.specs.Texts.{Text, puts, decimal, drained};
 
 use std::env::{Env, FillError};
 use std::fmt::InlineText;
-use std::io::{Error, Result};
+use std::io::Error;
 use tables::Found;
 
 // Of a line that has not ended yet: how many of its bytes stand at the buffer's front, and whether it is too long, so
@@ -101,22 +101,22 @@ pub fn put_number(out: &mut [u8], at: usize, number: u64) -> usize
     put_text(out, at, &digits[..count])
 }
 
-// Writes the text to standard output, and says how much of it waits then: nothing. A write that fails is the error.
-pub fn flush(rt: &impl Print, out: &[u8], at: usize) -> Result<usize>
-    ensures { IfOk result (λ left. left ≡ 0) }
+// Writes the text to standard output, and says how much of it waits then: nothing. A write that fails goes unnoticed.
+pub fn flush(rt: &impl Print, out: &[u8], at: usize) -> usize
+    ensures { result ≡ 0 }
 {
     if at <= out.len() {
-        rt.write_all(&out[..at])?;
+        let _ = rt.write_all(&out[..at]);
     }
-    Ok(0)
+    0
 }
 
 // Writes the text if it has come to a length, and says how much of it waits then.
-pub fn drained(rt: &impl Print, out: &[u8], at: usize, most: usize) -> Result<usize>
-    ensures { IfOk result (λ left. left ≡ drained most at) }
+pub fn drained(rt: &impl Print, out: &[u8], at: usize, most: usize) -> usize
+    ensures { result ≡ drained most at }
 {
     if at < most {
-        return Ok(at);
+        return at;
     }
     flush(rt, out, at)
 }
@@ -129,13 +129,13 @@ fn reason(text: &str) -> &[u8] {
     }
 }
 
-// Writes a line: what failed, as the caller names it, a colon and the reason.
-pub fn fail(to: &impl Print, what: &[u8], error: Error) -> Result<()> {
+// Writes a line: what failed, as the caller names it, a colon and the reason. A write that fails goes unnoticed.
+pub fn fail(to: &impl Print, what: &[u8], error: Error) {
     let text = InlineText::<256>::of(error);
-    to.write_all(what)?;
-    to.write_all(b": ")?;
-    to.write_all(reason(text.as_str()))?;
-    to.write_all(b"\n")
+    let _ = to.write_all(what);
+    let _ = to.write_all(b": ");
+    let _ = to.write_all(reason(text.as_str()));
+    let _ = to.write_all(b"\n");
 }
 
 // How many arguments the program was started with, its own name among them.

@@ -166,11 +166,10 @@ fn fewer(turns: u64, source: Source) -> u64
 }
 
 // Each win of a run, behind all else that is told.
-fn finish(to: &impl Print, out: &mut [u8], run: Run) -> io::Result<()> {
+fn finish(to: &impl Print, out: &mut [u8], run: Run) {
     let wins = run.wins;
     let end = tellings::put_wins(out, run.at, &wins, run.won);
-    lines::flush(to, out, end)?;
-    Ok(())
+    lines::flush(to, out, end);
 }
 
 // The lines of a run, and its summary. The nodes and their tables stand here, and each line takes out those that it is about; a
@@ -186,7 +185,7 @@ fn play_lines<R: Read>(
     map: &mut [u16],
     epochs: &mut [u64],
     out: &mut [u8],
-) -> io::Result<()> {
+) {
     let mut slots = [tables::UNOWNED; ALL_SLOTS];
     let mut times = [0u64; ALL_REPORTS];
     let mut seats = [seats::newcomer(0, 0); ROOM];
@@ -194,7 +193,7 @@ fn play_lines<R: Read>(
     let mut source = begin;
     let mut turns = u64::MAX;
     while turns > 0 {
-        run.at = lines::drained(to, out, run.at, FULL)?;
+        run.at = lines::drained(to, out, run.at, FULL);
         source = sources::next_line(input, err, buf, source, run.handed);
         turns = fewer(turns, source);
         let heard = runs::hear(call_of(source), source.count, run, out);
@@ -216,18 +215,12 @@ fn play_lines<R: Read>(
         let at = run.at;
         run.at = walks::look_up(map, epochs, run.size, seats, &slots, source, call, out, at);
     }
-    finish(to, out, run)
+    finish(to, out, run);
 }
 
 // A run. The list, the gateway's map, which has no entry yet, the epochs beside its entries, and the room for what is told stand
 // here: in the function with the loop every step of its proof would compute with their lengths.
-fn play<R: Read>(
-    to: &impl Print,
-    err: &impl Print,
-    input: &mut R,
-    begin: Source,
-    buf: &mut [u8],
-) -> io::Result<()> {
+fn play<R: Read>(to: &impl Print, err: &impl Print, input: &mut R, begin: Source, buf: &mut [u8]) {
     let mut list = [0u16; LIST];
     let mut map = [tables::UNOWNED; SLOTS];
     let mut epochs = [0u64; SLOTS];
@@ -242,19 +235,18 @@ fn play<R: Read>(
         &mut map,
         &mut epochs,
         &mut out,
-    )
+    );
 }
 
 // ---- files
 
-fn put_name(to: &impl Print, path: &[u8], first: bool) -> io::Result<()> {
+fn put_name(to: &impl Print, path: &[u8], first: bool) {
     if !first {
-        lines::flush(to, b"\n", 1)?;
+        lines::flush(to, b"\n", 1);
     }
-    lines::flush(to, b"run ", 4)?;
-    lines::flush(to, path, path.len())?;
-    lines::flush(to, b"\n", 1)?;
-    Ok(())
+    lines::flush(to, b"run ", 4);
+    lines::flush(to, path, path.len());
+    lines::flush(to, b"\n", 1);
 }
 
 // Why an argument could not be taken over.
@@ -275,50 +267,49 @@ fn open(rt: &HostRuntime, path: &[u8]) -> io::Result<File> {
 
 // The run of the file that an argument names, under its name, with an empty line between it and the one before. A file that
 // cannot be read is named with the reason, and nothing else is said of it. Says whether a run is still the first.
-fn argument(rt: &HostRuntime, i: usize, first: bool) -> io::Result<bool> {
+fn argument(rt: &HostRuntime, i: usize, first: bool) -> bool {
     let err = rt.stderr();
     let mut room = [0u8; PATH];
     let length = match rt.arg(i, &mut room) {
         Ok(length) => length,
         Err(error) => {
-            lines::fail(&err, b"argument", unfilled(error))?;
-            return Ok(first);
+            lines::fail(&err, b"argument", unfilled(error));
+            return first;
         }
     };
     let path = sources::part(&room, 0, length);
     let mut file = match open(rt, path) {
         Ok(file) => file,
         Err(error) => {
-            lines::fail(&err, path, error)?;
-            return Ok(first);
+            lines::fail(&err, path, error);
+            return first;
         }
     };
     let mut buf = [0u8; PIECE];
     let got = match file.read(&mut buf) {
         Ok(got) => got,
         Err(error) => {
-            lines::fail(&err, path, error)?;
-            return Ok(first);
+            lines::fail(&err, path, error);
+            return first;
         }
     };
-    put_name(rt, path, first)?;
+    put_name(rt, path, first);
     let begin = sources::opened(file.as_raw_fd(), got);
-    play(rt, &err, &mut file, begin, &mut buf)?;
-    Ok(false)
+    play(rt, &err, &mut file, begin, &mut buf);
+    false
 }
 
-fn main(rt: HostRuntime) -> io::Result<()> {
+fn main(rt: HostRuntime) {
     let count = lines::argument_count(&rt);
     let mut first = true;
     let mut i: usize = 1;
     while i < count {
-        first = argument(&rt, i, first)?;
+        first = argument(&rt, i, first);
         i += 1;
     }
     if count < 2 {
         let begin = sources::opened(rt.stdin().as_raw_fd(), 0);
         let mut buf = [0u8; PIECE];
-        play(&rt, &rt.stderr(), &mut rt.reader(), begin, &mut buf)?;
+        play(&rt, &rt.stderr(), &mut rt.reader(), begin, &mut buf);
     }
-    Ok(())
 }

@@ -40,32 +40,32 @@ fn front(bytes: &[u8], end: usize) -> &[u8]
 
 // ---- faults
 
-fn expected(err: &impl Print) -> io::Result<()> {
+fn expected(err: &impl Print) {
     let text = b"usage: slotmap SIZE, with a slot table on standard input\n\
         SIZE is how many nodes the roster has, from 1 to 64\n\
         the table has 16,384 entries: as 32,768 bytes as they lie in memory, two an entry, the low byte first; \
         or as text, four hexadecimal digits an entry, with blanks and line ends wherever one likes\n";
-    err.write_all(text)
+    let _ = err.write_all(text);
 }
 
 // What is wrong, and what is expected.
-fn fault(err: &impl Print, text: &[u8]) -> io::Result<()> {
-    err.write_all(b"slotmap: ")?;
-    err.write_all(text)?;
-    err.write_all(b"\n")?;
-    expected(err)
+fn fault(err: &impl Print, text: &[u8]) {
+    let _ = err.write_all(b"slotmap: ");
+    let _ = err.write_all(text);
+    let _ = err.write_all(b"\n");
+    expected(err);
 }
 
 // The same where a text has numbers in it, the next one for each %.
-fn fault_with(err: &impl Print, text: &[u8], numbers: &[u64]) -> io::Result<()> {
+fn fault_with(err: &impl Print, text: &[u8], numbers: &[u64]) {
     let mut out = [0u8; LINE];
     let end = phrases::put_filled(&mut out, 0, text, numbers);
-    fault(err, front(&out, end))
+    fault(err, front(&out, end));
 }
 
-fn wrong_digits(err: &impl Print, count: usize) -> io::Result<()> {
+fn wrong_digits(err: &impl Print, count: usize) {
     let text = b"this is no slot table: it has % and not 65,536 hexadecimal digits";
-    fault_with(err, text, &[count as u64])
+    fault_with(err, text, &[count as u64]);
 }
 
 // Where a byte stands: its line and its character there, both from 1 on.
@@ -95,7 +95,7 @@ fn place_behind(bytes: &[u8]) -> Place {
     }
 }
 
-fn odd_character(err: &impl Print, input: &[u8], at: usize) -> io::Result<()> {
+fn odd_character(err: &impl Print, input: &[u8], at: usize) {
     let place = place_behind(front(input, at));
     let text = b"this is no slot table: it has % and not 32,768 bytes, and character % of line % \
         is neither a hexadecimal digit nor a blank";
@@ -107,7 +107,7 @@ fn odd_character(err: &impl Print, input: &[u8], at: usize) -> io::Result<()> {
             place.character as u64,
             place.line as u64,
         ],
-    )
+    );
 }
 
 // ---- the argument
@@ -125,23 +125,23 @@ fn size_of(word: &[u8]) -> u16
 }
 
 // The roster's size; 0 where the arguments do not say it.
-fn roster(env: &impl Env, err: &impl Print) -> io::Result<u16> {
+fn roster(env: &impl Env, err: &impl Print) -> u16 {
     let count = lines::argument_count(env);
     if count < 2 {
-        fault(err, b"the roster's size is missing")?;
-        return Ok(0);
+        fault(err, b"the roster's size is missing");
+        return 0;
     }
     if count > 2 {
-        fault(err, b"there is more than one argument")?;
-        return Ok(0);
+        fault(err, b"there is more than one argument");
+        return 0;
     }
     let mut word = [0u8; WORD];
     let length = env.arg(1, &mut word).unwrap_or(0);
     let size = size_of(&word[..length]);
     if size == 0 {
-        fault(err, b"the roster's size is no number from 1 to 64")?;
+        fault(err, b"the roster's size is no number from 1 to 64");
     }
-    Ok(size)
+    size
 }
 
 // ---- the table
@@ -175,19 +175,12 @@ fn put_table(slots: &[u16; SLOTS], size: u16, list: &mut [u16; LIST], out: &mut 
     totals::put_totals(out, end, slots, size)
 }
 
-fn print(
-    to: &impl Print,
-    slots: &[u16; SLOTS],
-    size: u16,
-    list: &mut [u16; LIST],
-    out: &mut [u8],
-) -> io::Result<()> {
+fn print(to: &impl Print, slots: &[u16; SLOTS], size: u16, list: &mut [u16; LIST], out: &mut [u8]) {
     let end = put_table(slots, size, list, out);
-    lines::flush(to, out, end)?;
-    Ok(())
+    lines::flush(to, out, end);
 }
 
-fn tell(to: &impl Print, err: &impl Print, input: &[u8], size: u16) -> io::Result<()> {
+fn tell(to: &impl Print, err: &impl Print, input: &[u8], size: u16) {
     let mut slots = [tables::UNOWNED; SLOTS];
     let mut list = [0u16; LIST];
     let mut out = [0u8; TEXT];
@@ -200,30 +193,24 @@ fn tell(to: &impl Print, err: &impl Print, input: &[u8], size: u16) -> io::Resul
 }
 
 // All of it, with room for the input.
-fn run<R: Read>(
-    to: &impl Print,
-    err: &impl Print,
-    from: &mut R,
-    buf: &mut [u8],
-    size: u16,
-) -> io::Result<()> {
+fn run<R: Read>(to: &impl Print, err: &impl Print, from: &mut R, buf: &mut [u8], size: u16) {
     let input = take(from, buf);
     match input {
         Input::Whole(end) => tell(to, err, front(buf, end), size),
         Input::Failed(error) => {
-            lines::fail(err, b"slotmap: the input could not be read", error)?;
-            expected(err)
+            lines::fail(err, b"slotmap: the input could not be read", error);
+            expected(err);
         }
         Input::TooLong => fault(err, b"the input has more than 1,048,576 bytes"),
     }
 }
 
-fn main(rt: HostRuntime) -> io::Result<()> {
+fn main(rt: HostRuntime) {
     let err = rt.stderr();
-    let size = roster(&rt, &err)?;
+    let size = roster(&rt, &err);
     if size == 0 {
-        return Ok(());
+        return;
     }
     let mut buf = [0u8; ROOM];
-    run(&rt, &err, &mut rt.reader(), &mut buf, size)
+    run(&rt, &err, &mut rt.reader(), &mut buf, size);
 }

@@ -131,8 +131,7 @@ fn more<R: Read>(input: &mut R, err: &impl Print, buf: &mut [u8], past: Source) 
     }
     match input.read(buf) {
         Err(error) => {
-            // Whether the reason could be told changes nothing.
-            let _told = lines::fail(err, b"reading", error);
+            lines::fail(err, b"reading", error);
             close(here)
         }
         Ok(0) => close(here),

@@ -10,7 +10,7 @@ ghost use Rattle.streams.specs.Streams.{stream};
 use feed::Told;
 use scraps::Kept;
 use state::Node;
-use std::io::{Read, Result};
+use std::io::Read;
 
 // Entries of the slot table.
 const SLOTS: usize = tables::SLOTS as usize;
@@ -29,14 +29,6 @@ struct Held {
     node: Node,
     kept: Kept,
     going: bool,
-}
-
-// How much of the text waits after a write. One that fails goes unnoticed: the node takes in what it is fed all the same.
-fn waiting(written: Result<usize>) -> usize {
-    match written {
-        Ok(left) => left,
-        Err(_) => 0,
-    }
 }
 
 // Answers every line that ends in the piece, and leaves what its bytes leave one by one. An answer uses its line up, so
@@ -61,7 +53,7 @@ fn answer_lines(
         here = fed.node;
         let told = fed.told;
         let Told::Answered(answer) = told else {
-            waiting(lines::flush(rt, out, at));
+            lines::flush(rt, out, at);
             let kept = fed.kept;
             return Held {
                 node: here,
@@ -72,7 +64,7 @@ fn answer_lines(
         rest.length = 0;
         from = from + fed.used;
         let text = printing::put_answer(out, at, answer, here.current, here.voted);
-        at = waiting(lines::drained(rt, out, text, FULL));
+        at = lines::drained(rt, out, text, FULL);
     }
 }
 
@@ -110,9 +102,12 @@ fn turn<R: Read>(
     reports: &mut [u64],
     buf: &mut [u8],
     out: &mut [u8],
-) -> Result<Held> {
-    let got = input.read(buf)? as isize;
-    Ok(take_in(rt, node, kept, slots, reports, buf, got, out))
+) -> Held {
+    let got = match input.read(buf) {
+        Ok(n) => n as isize,
+        Err(_) => -1,
+    };
+    take_in(rt, node, kept, slots, reports, buf, got, out)
 }
 
 // A proved loop has to end, and nothing says that the input does, so it counts down from a number that no run uses up.
@@ -123,7 +118,7 @@ fn run<R: Read>(
     reports: &mut [u64],
     buf: &mut [u8],
     out: &mut [u8],
-) -> Result<()> {
+) {
     let mut held = Held {
         node: cases::node(),
         kept: scraps::none(),
@@ -133,16 +128,15 @@ fn run<R: Read>(
     while turns > 0 {
         let node = held.node;
         let kept = held.kept;
-        held = turn(rt, input, node, kept, slots, reports, buf, out)?;
+        held = turn(rt, input, node, kept, slots, reports, buf, out);
         if !held.going {
-            return Ok(());
+            return;
         }
         turns -= 1;
     }
-    Ok(())
 }
 
-fn main(rt: HostRuntime) -> Result<()> {
+fn main(rt: HostRuntime) {
     let mut slots = [tables::UNOWNED; SLOTS];
     let mut reports = [0u64; tables::REPORTS];
     let mut buf = [0u8; PIECE];
@@ -154,5 +148,5 @@ fn main(rt: HostRuntime) -> Result<()> {
         &mut reports,
         &mut buf,
         &mut out,
-    )
+    );
 }
