@@ -1,5 +1,7 @@
 // The morning after: runs the calls that files list on a whole roster, and says what each node answered.
 // docs/REPLAY.md has the format. Each file is a run of its own; without a file the run is read from standard input.
+#![tactic(auto)]
+
 ghost use Rattle.std.specs.Prelude.{◌≡◌, ◌≤◌, ◌<◌, length};
 
 use acts::Done;
@@ -11,10 +13,9 @@ use sources::Source;
 use state::{Election, Node};
 use std::env::{Env, FillError};
 use std::fs::File;
-use std::io;
 use std::io::Read;
 use std::os::fd::AsRawFd;
-use std::str;
+use std::{io, str};
 use tellings::Told;
 
 // The most nodes of a roster.
@@ -220,12 +221,28 @@ fn play_lines<R: Read>(
 
 // A run. The list, the gateway's map, which has no entry yet, the epochs beside its entries, and the room for what is told stand
 // here: in the function with the loop every step of its proof would compute with their lengths.
-fn play<R: Read>(to: &impl Print, err: &impl Print, input: &mut R, begin: Source, buf: &mut [u8]) -> io::Result<()> {
+fn play<R: Read>(
+    to: &impl Print,
+    err: &impl Print,
+    input: &mut R,
+    begin: Source,
+    buf: &mut [u8],
+) -> io::Result<()> {
     let mut list = [0u16; LIST];
     let mut map = [tables::UNOWNED; SLOTS];
     let mut epochs = [0u64; SLOTS];
     let mut out = [0u8; TEXT];
-    play_lines(to, err, input, begin, buf, &mut list, &mut map, &mut epochs, &mut out)
+    play_lines(
+        to,
+        err,
+        input,
+        begin,
+        buf,
+        &mut list,
+        &mut map,
+        &mut epochs,
+        &mut out,
+    )
 }
 
 // ---- files
