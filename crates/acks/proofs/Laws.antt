@@ -1,4 +1,5 @@
 -- What an ack does to a node, and what holds of it put together.
+use Rattle.std.specs.Prelude.{None}
 use mathlib.Core.Path.{◌≡◌, refl, ap, ◌∙◌}
 use mathlib.Core.Bool.{true}
 use mathlib.Core.List.{List, [], ◌∷◌}
@@ -20,7 +21,6 @@ use Rattle.state.specs.Changes.{with_record, with_records, with_election}
 use Rattle.state.specs.Outcomes.{Slotted}
 use Rattle.state.specs.declared.Node.{Node}
 use Rattle.state.specs.declared.Record.{Record}
-use Rattle.state.specs.declared.Election.TheVariants.{Closed}
 use Rattle.soundness.specs.Sound.{sound}
 use Rattle.soundness.proofs.Facts.{me_listed, followed_listed, voters_fit, heard_fit}
 use Rattle.soundness.proofs.Keeps.{Keeps}
@@ -90,7 +90,7 @@ module _ (n : Node) (slots : List ℕ) (voter candidate epoch : ℕ) where
   ack_changes =
       let P : Slotted → Type 0 = λ o. let b = o.outcome.node in b ≡ with_election b.election (with_record n.me (record_at b n.me) n) in
       ack_cases n slots voter candidate epoch P
-      (λ a t. rw (set-get_or n.records n.me blank)) (λ o v h w m. rw (set-get_or n.records n.me blank)) (λ o v h w m. ap (λ (rs : List Record). with_election Closed (with_records rs n)) (set_got n.records n.me (winner epoch (record_at n n.me)) blank))
+      (λ a t. rw (set-get_or n.records n.me blank)) (λ o v h w m. rw (set-get_or n.records n.me blank)) (λ o v h w m. ap (λ (rs : List Record). with_election None (with_records rs n)) (set_got n.records n.me (winner epoch (record_at n n.me)) blank))
 
   pub ack_keeps : Keeps n hearing.outcome.node
   unfolding with_election with_records

@@ -1,5 +1,5 @@
 -- An ack: document 01, "Election", its second paragraph. The clock and currentEpoch have moved.
-use Rattle.std.specs.Prelude.{ℕ, Bool, not, cond, List, [], ◌∷◌, eqb}
+use Rattle.std.specs.Prelude.{ℕ, Bool, not, cond, List, [], ◌∷◌, eqb, None, Option, Some}
 use Rattle.tables.specs.Checks.{checked}
 use Rattle.ages.specs.Ages.{age, ack_too_late}
 use Rattle.nodesets.specs.NodeSets.{has, added, majority}
@@ -9,8 +9,8 @@ use Rattle.answers.specs.declared.Answer.TheVariants.{Done, NoElection, OtherCan
 use Rattle.state.specs.Changes.{with_election}
 use Rattle.state.specs.Outcomes.{answered, Slotted}
 use Rattle.state.specs.declared.Node.{Node}
+use Rattle.state.specs.Node.{an_election}
 use Rattle.state.specs.declared.Election.{Election}
-use Rattle.state.specs.declared.Election.TheVariants.{Closed, Open}
 pub use Rattle.wins.specs.Wins.{passing, winner, won}
 unfoldable pub use Rattle.wins.specs.Wins.{promoted}
 
@@ -28,14 +28,14 @@ ack_checks n voter candidate epoch running opened voters heard =
 abbrev pub counted : Node → List ℕ → ℕ → ℕ → NodeSet → NodeSet → Slotted
 counted n slots epoch opened voters heard =
     cond (majority voters heard) (won n slots epoch)
-    (record { outcome = answered (with_election (Open epoch opened voters heard) n) Done; slots = slots })
+    (record { outcome = answered (with_election (an_election epoch opened voters heard) n) Done; slots = slots })
 
 -- 31, and an ack in an open election
-abbrev pub heard_in : Node → List ℕ → ℕ → ℕ → ℕ → Election → Slotted
-heard_in n slots voter candidate epoch Closed = record { outcome = answered n NoElection; slots = slots }
-heard_in n slots voter candidate epoch (Open running opened voters heard) =
-    checked (λ a. record { outcome = answered n a; slots = slots }) (ack_checks n voter candidate epoch running opened voters heard)
-    (counted n slots running opened voters (added heard voter))
+abbrev pub heard_in : Node → List ℕ → ℕ → ℕ → ℕ → Option Election → Slotted
+heard_in n slots voter candidate epoch None = record { outcome = answered n NoElection; slots = slots }
+heard_in n slots voter candidate epoch (Some e) =
+    checked (λ a. record { outcome = answered n a; slots = slots }) (ack_checks n voter candidate epoch e.epoch e.opened e.voters e.heard)
+    (counted n slots e.epoch e.opened e.voters (added e.heard voter))
 
 unfoldable pub acked : Node → List ℕ → ℕ → ℕ → ℕ → Slotted
 acked n slots voter candidate epoch = heard_in n slots voter candidate epoch n.election

@@ -9,14 +9,14 @@ use Rattle.answers.specs.declared.Answer.TheVariants.{Done, Won}
 use Rattle.state.specs.Changes.{with_election}
 use Rattle.state.specs.Outcomes.{Slotted}
 use Rattle.state.specs.declared.Node.{Node}
-use Rattle.state.specs.declared.Election.TheVariants.{Open}
 use Rattle.soundness.specs.Sound.{sound}
+use Rattle.state.specs.Node.{an_election}
 use Rattle.acks.specs.Acks.{promoted, passing, acked}
 
 -- none of 31 to 36 applies to the ack
 pub record Hears (n : Node) (voter candidate epoch opened : ℕ) (voters heard : NodeSet) : Type 0 where
   -- 31 and 33: an election is open, and its epoch is the ack's
-  pub running : n.election ≡ Open epoch opened voters heard
+  pub running : n.election ≡ an_election epoch opened voters heard
   -- 32: this node is the candidate
   pub mine : candidate ≡ n.me
   -- 34: the voter is in the set
@@ -41,7 +41,7 @@ module _ (n : Node) (slots : List ℕ) (voter candidate epoch : ℕ) where
   pub record GoesOn (o : Slotted) : Type 0 where
     pub counts : Counts n voter candidate epoch
     pub not_most : 2 * count counts.after ≤ count counts.voters
-    pub node : o.outcome.node ≡ with_election (Open epoch counts.opened counts.voters counts.after) n
+    pub node : o.outcome.node ≡ with_election (an_election epoch counts.opened counts.voters counts.after) n
     pub slots_kept : o.slots ≡ slots
 
   -- 30: more than half of the set are heard; this node is a master with that epoch as configEpoch, the election is closed,

@@ -3,99 +3,61 @@
 
 ghost use Rattle.std.specs.Prelude.{◌≡◌};
 ghost use Rattle.tables.specs.Checks.{checked};
+ghost use Rattle.answers.specs.Refusing.{cleared};
 ghost use Rattle.acks.specs.Acks.{ack_checks, counted, acked};
-ghost use Rattle.answers.specs.declared.Check.TheVariants.{Passed, Refused};
 
 use answers::{Answer, Check};
-use nodesets::NodeSet;
 use state::{Election, Node, Outcome};
 
 // 32 to 36.
-fn ack_refusal(
-    node: Node,
-    voter: u8,
-    candidate: u8,
-    epoch: u64,
-    running: u64,
-    opened: u64,
-    voters: NodeSet,
-    heard: NodeSet,
-) -> Check
-    ensures { result ≡ checked Refused (ack_checks node voter candidate epoch running opened voters heard) Passed }
+fn ack_refusal(node: Node, voter: u8, candidate: u8, epoch: u64, election: Election) -> Check
+    ensures { result ≡ checked Err (ack_checks node voter candidate epoch election.epoch election.opened election.voters election.heard) cleared }
 {
-    if candidate as u16 != node.me {
-        return Check::Refused(Answer::OtherCandidate);
+    if u16::from(candidate) != node.me {
+        return Err(Answer::OtherCandidate);
     }
-    if epoch != running {
-        return Check::Refused(Answer::OtherEpoch);
+    if epoch != election.epoch {
+        return Err(Answer::OtherEpoch);
     }
-    if nodesets::has(voters, voter as u16) {} else {
-        return Check::Refused(Answer::NoVoter);
+    if !nodesets::has(election.voters, u16::from(voter)) {
+        return Err(Answer::NoVoter);
     }
-    if ages::ack_too_late(node.timeout, ages::age(node.clock, opened)) {
-        return Check::Refused(Answer::AckLate);
+    if ages::ack_too_late(node.timeout, ages::age(node.clock, election.opened)) {
+        return Err(Answer::AckLate);
     }
-    if nodesets::has(heard, voter as u16) {
-        return Check::Refused(Answer::AckRepeated);
+    if nodesets::has(election.heard, u16::from(voter)) {
+        return Err(Answer::AckRepeated);
     }
-    Check::Passed
+    Ok(())
 }
 
 // With a voter more heard: 30 when more than half of the set are, else 0.
-fn counted(
-    node: Node,
-    slots: &mut [u16],
-    epoch: u64,
-    opened: u64,
-    voters: NodeSet,
-    heard: NodeSet,
-) -> Outcome
-    ensures { record { outcome = result; slots = slots.new } ≡ counted node slots.old epoch opened voters heard }
+fn counted(node: Node, slots: &mut [u16], election: Election) -> Outcome
+    ensures { record { outcome = result; slots = slots.new } ≡ counted node slots.old election.epoch election.opened election.voters election.heard }
 {
-    if nodesets::majority(voters, heard) {
-        return wins::won(node, slots, epoch);
+    if nodesets::majority(election.voters, election.heard) {
+        return wins::won(node, slots, election.epoch);
     }
-    let next = changes::with_election(
-        node,
-        Election::Open {
-            epoch,
-            opened,
-            voters,
-            heard,
-        },
-    );
     Outcome {
         answer: Answer::Done,
-        node: next,
+        node: changes::with_election(node, Some(election)),
     }
 }
 
 // An ack, after the clock and currentEpoch have moved.
+#[tactic(auto, using(answers::proofs::Checks::by_check), unfolding(crate::specs::Acks::acked))]
 pub fn ack(node: Node, slots: &mut [u16], voter: u8, candidate: u8, epoch: u64) -> Outcome
     ensures { record { outcome = result; slots = slots.new } ≡ acked node slots.old voter candidate epoch }
 {
-    let election = node.election;
-    match election {
-        Election::Closed => Outcome {
+    let Some(election) = node.election else {
+        return Outcome {
             answer: Answer::NoElection,
             node,
-        },
-        Election::Open {
-            epoch: running,
-            opened,
-            voters,
-            heard,
-        } => {
-            let check = ack_refusal(
-                node, voter, candidate, epoch, running, opened, voters, heard,
-            );
-            match check {
-                Check::Refused(answer) => Outcome { answer, node },
-                Check::Passed => {
-                    let more = nodesets::add(heard, voter as u16);
-                    counted(node, slots, running, opened, voters, more)
-                }
-            }
-        }
+        };
+    };
+    if let Err(answer) = ack_refusal(node, voter, candidate, epoch, election) {
+        return Outcome { answer, node };
     }
+    let heard = nodesets::add(election.heard, u16::from(voter));
+    counted(node, slots, Election { heard, ..election })
 }

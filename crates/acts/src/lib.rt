@@ -4,161 +4,91 @@
 
 ghost use Rattle.std.specs.Prelude.{◌≤◌, length};
 
-use answers::Answer;
-use calls::Call;
-use feed::Fed;
-use routing::Redirect;
+use calls::{Call, Form, WORDS};
+use lines::Writer;
 use scraps::Kept;
 use seats::Seat;
 use state::{Move, Node, Outcome};
-use tellings::Note;
+use tellings::Said;
 
-// ---- what a line writes
+// What a line came to: the node after it, what is said of it, the node that a frame names, and how much of a piece was handed
+// over, 0 if nothing is left.
+#[derive(Clone, Copy)]
+pub struct Done {
+    pub seat: Seat,
+    pub said: Said,
+    pub named: u8,
+    pub handed: usize,
+}
 
-// Node k after a line that is no call.
-fn listed(seat: Seat, k: usize, call: Call) -> Seat {
-    let said = call.numbers;
-    let form = call.form;
-    match form {
-        calls::ROSTER => seats::newcomer(said[1], k),
-        calls::REPLICA => seats::seated(seats::follow(seat.node, said[1], said[3]), seat),
-        calls::TIMEOUT => seats::seated(seats::wait(seat.node, said[2]), seat),
-        _ => seat,
+fn finished(seat: Seat, said: Said) -> Done {
+    Done {
+        seat,
+        said,
+        named: 0,
+        handed: 0,
     }
 }
 
+fn answered(seat: Seat, outcome: Outcome) -> Done {
+    let node = outcome.node;
+    finished(Seat { node, ..seat }, Said::Answered(outcome.answer))
+}
+
+// ---- what a line writes
+
+fn listed(seat: Seat, node: Node) -> Done {
+    finished(Seat { node, ..seat }, Said::Nothing)
+}
+
 // Entries of its slot table.
-fn give(slots: &mut [u16], line: &[u8], call: Call) {
-    if call.form != calls::SLOTS {
-        return;
-    }
+fn give(seat: Seat, slots: &mut [u16], line: &[u8], owner: u64) -> Done {
     let range = calls::word(line, 1);
     arguments::give(
         slots,
         words::first_slot(range),
         words::last_slot(range),
-        seats::short(call.numbers[3]),
+        seats::short(owner),
     );
+    finished(seat, Said::Nothing)
 }
 
 // An entry of its report times, kept as one more: 0 is none.
-fn stamp(reports: &mut [u64], call: Call) {
-    let said = call.numbers;
+fn stamp(seat: Seat, reports: &mut [u64], said: [u64; WORDS]) -> Done {
     let subject = said[2] as usize % tables::NODES;
-    let at = subject * tables::NODES + said[3] as usize % tables::NODES;
-    if call.form != calls::REPORT {
-        return;
+    let reporter = said[3] as usize % tables::NODES;
+    if let Some(entry) = reports.get_mut(subject * tables::NODES + reporter) {
+        *entry = words::kept(said[4]);
     }
-    if at < reports.len() {
-        reports[at] = words::kept(said[4]);
-    }
+    finished(seat, Said::Nothing)
 }
 
 // ---- calls
 
-fn movement(form: u8, peer: u64) -> Move {
-    if form == calls::MIGRATE {
-        return Move::Migrating(seats::small(peer));
-    }
-    Move::Importing(seats::small(peer))
-}
-
-// A call that lends no table to be written.
-fn called(node: Node, slots: &[u16], call: Call) -> Outcome {
-    let said = call.numbers;
-    let form = call.form;
-    match form {
-        calls::OPEN => node::open_election(node, slots, said[2]),
-        calls::UNMARK => node::clear_mark(node, seats::short(said[2])),
-        _ => node::set_mark(node, slots, seats::short(said[2]), movement(form, said[4])),
-    }
-}
-
-fn routed(node: Node, slots: &[u16], line: &[u8], call: Call) -> Redirect {
-    let said = call.numbers;
-    let key = calls::word(line, 2);
-    let present = said[3] == 1;
-    let asking = said[4] == 1;
-    if call.form == calls::HEXKEY {
-        let mut room = [0u8; scraps::ROOM];
-        let n = arguments::key(key, &mut room);
-        return routing::route(node, slots, sources::part(&room, 0, n), present, asking);
-    }
-    routing::route(node, slots, key, present, asking)
-}
-
-// ---- a line, done
-
-// What a line came to: the node after it, what is said of it, END if nothing is, the answer, the node that a frame names and,
-// in the summary, how many slots the node owns. How much of a piece was handed over, 0 if nothing is left.
-#[derive(Clone, Copy)]
-pub struct Done {
-    pub seat: Seat,
-    pub said: Note,
-    pub answer: Answer,
-    pub named: u8,
-    pub slots: u64,
-    pub handed: usize,
-}
-
-fn finished(seat: Seat, said: Note) -> Done {
-    Done {
-        seat,
-        said,
-        answer: Answer::Done,
-        named: 0,
-        slots: 0,
-        handed: 0,
-    }
-}
-
-fn answered(seat: Seat, answer: Answer, named: u8) -> Done {
-    Done {
-        seat,
-        said: tellings::of_answer(answer),
-        answer,
-        named,
-        slots: 0,
-        handed: 0,
-    }
-}
-
 fn do_frame(seat: Seat, slots: &mut [u16], reports: &mut [u64], line: &[u8]) -> Done {
     let mut room = [0u8; 8192];
-    let n = calls::frame(line, &mut room);
-    let frame = sources::part(&room, 0, n);
-    let named = arguments::named(frame);
-    let outcome = node::frame(seat.node, slots, reports, frame);
-    let answer = outcome.answer;
-    answered(seats::seated(outcome.node, seat), answer, named)
+    let mut text = Writer {
+        bytes: &mut room,
+        end: 0,
+    };
+    calls::frame(line, &mut text);
+    let end = text.end;
+    let frame = sources::part(&room, 0, end);
+    Done {
+        named: arguments::named(frame),
+        ..answered(seat, node::frame(seat.node, slots, reports, frame))
+    }
 }
 
 // The node that a line of a feed names, if the line ends in this piece.
 fn named_in(kept: Kept, piece: &[u8]) -> u8 {
-    let gathered = scraps::gather(kept, piece);
-    let line = gathered.kept;
-    let bytes = line.bytes;
-    arguments::named(sources::characters(&bytes, line.length))
-}
-
-// What a call of a feed came to.
-fn fed(fed: Fed, named: u8) -> Done {
-    let node = fed.node;
-    let kept = fed.kept;
-    let told = fed.told;
-    let seat = Seat { node, kept };
-    match told {
-        feed::Told::NoLine => finished(seat, tellings::of_kept(kept)),
-        feed::Told::Answered(answer) => answered(seat, answer, named),
-    }
+    let line = scraps::gather(kept, piece).kept;
+    arguments::named(sources::characters(&line.bytes, line.length))
 }
 
 // How much of a piece was handed over: 0 if nothing is left of it.
 fn handed_to(place: usize, length: usize) -> usize {
-    if place < length {
-        return place;
-    }
-    0
+    if place < length { place } else { 0 }
 }
 
 // A piece of a feed, from where the last call has left it.
@@ -170,59 +100,72 @@ fn do_piece(
     handed: usize,
 ) -> Done {
     let mut room = [0u8; scraps::ROOM];
-    let n = arguments::piece(calls::word(line, 2), &mut room);
-    let piece = sources::part(&room, handed, n);
-    let named = named_in(seat.kept, piece);
-    let outcome = feed::feed(seat.node, slots, reports, seat.kept, piece);
-    let used = outcome.used;
-    let mut done = fed(outcome, named);
-    done.handed = handed_to(sources::further(handed, used), n);
-    done
+    let end = arguments::piece(calls::word(line, 2), &mut room);
+    let piece = sources::part(&room, handed, end);
+    let fed = feed::feed(seat.node, slots, reports, seat.kept, piece);
+    let node = fed.node;
+    let kept = fed.kept;
+    Done {
+        seat: Seat { node, kept },
+        said: match fed.told {
+            None => Said::Unended(kept.length),
+            Some(answer) => Said::Answered(answer),
+        },
+        named: named_in(seat.kept, piece),
+        handed: handed_to(sources::further(handed, fed.used), end),
+    }
 }
 
-// A call that writes no table. Where a key is asked for the node stays as it is.
-fn do_other(seat: Seat, slots: &[u16], line: &[u8], call: Call) -> Done {
-    if call.form < calls::KEY {
-        let outcome = called(seat.node, slots, call);
-        let answer = outcome.answer;
-        return answered(seats::seated(outcome.node, seat), answer, 0);
-    }
+fn do_mark(seat: Seat, slots: &[u16], said: [u64; WORDS], movement: Move) -> Done {
+    let slot = seats::short(said[2]);
+    answered(seat, node::set_mark(seat.node, slots, slot, movement))
+}
+
+// Where a key is asked for the node stays as it is. It stands at place 2, and behind it whether the node has it, and whether
+// ASKING came first.
+fn do_key(seat: Seat, slots: &[u16], key: &[u8], said: [u64; WORDS]) -> Done {
+    let present = said[3] == 1;
+    let asking = said[4] == 1;
     finished(
         seat,
-        tellings::of_redirect(routed(seat.node, slots, line, call)),
+        Said::Sent(routing::route(seat.node, slots, key, present, asking)),
     )
 }
 
-// How much of a list is lent: all of it, or the numbers that there is said to be room for, which are said as one more.
-fn lent(list: &[u16], said: u64) -> usize
+fn do_hexkey(seat: Seat, slots: &[u16], digits: &[u8], said: [u64; WORDS]) -> Done {
+    let mut room = [0u8; scraps::ROOM];
+    let end = arguments::key(digits, &mut room);
+    do_key(seat, slots, sources::part(&room, 0, end), said)
+}
+
+// How much of a list is lent: all of it, or the numbers that there is said to be room for.
+fn lent(list: &[u16], call: Call) -> usize
     ensures { result ≤ length list.now }
 {
-    if said == 0 {
-        return list.len();
+    if call.words > 2 {
+        return list.len().min(call.numbers[2] as usize);
     }
-    if said > list.len() as u64 {
-        return list.len();
-    }
-    said as usize - 1
+    list.len()
 }
 
 // Its slot table is listed, into the list's front.
 fn do_ranges(seat: Seat, slots: &[u16], list: &mut [u16], call: Call) -> Done {
-    let room = lent(list, call.numbers[2]);
+    let room = lent(list, call);
     let answer = ranges::ranges(seat.node, slots, &mut list[..room]);
-    answered(seat, answer, 0)
+    finished(seat, Said::Answered(answer))
 }
 
 // A node at the end, and how many slots it owns.
 fn last_seen(seat: Seat, slots: &[u16], k: usize) -> Done {
-    let known = seats::own(seat.node);
-    let role = known.role;
-    let mut done = finished(seat, tellings::of_role(k as u64, role));
-    done.slots = totals::owned(slots, seats::short(k as u64));
-    done
+    let role = seats::own(seat.node).role;
+    let slots = totals::owned(slots, seats::short(k as u64));
+    finished(seat, Said::Last { role, slots })
 }
 
-// What a line does to node k, whose tables are lent, and a list for the ranges of its slots.
+// ---- a line, done
+
+// What a line does to node k, whose tables are lent, and a list for the ranges of its slots. A lookup is no node's: it is done
+// where all nodes are.
 pub fn act(
     seat: Seat,
     slots: &mut [u16],
@@ -233,22 +176,27 @@ pub fn act(
     call: Call,
     handed: usize,
 ) -> Done {
-    if call.form == calls::FRAME {
-        return do_frame(seat, slots, reports, line);
+    let node = seat.node;
+    let said = call.numbers;
+    match call.form {
+        Form::Roster => finished(seats::newcomer(said[1], k), Said::Nothing),
+        Form::Replica => listed(seat, seats::follow(node, said[1], said[3])),
+        Form::Timeout => listed(seat, seats::wait(node, said[2])),
+        Form::Slots => give(seat, slots, line, said[3]),
+        Form::Report => stamp(seat, reports, said),
+        Form::Frame => do_frame(seat, slots, reports, line),
+        Form::Piece => do_piece(seat, slots, reports, line, handed),
+        Form::Open => answered(seat, node::open_election(node, slots, said[2])),
+        Form::Migrate => do_mark(seat, slots, said, Move::Migrating(seats::small(said[4]))),
+        Form::Import => do_mark(seat, slots, said, Move::Importing(seats::small(said[4]))),
+        Form::Unmark => answered(seat, node::clear_mark(node, seats::short(said[2]))),
+        Form::Key => do_key(seat, slots, calls::word(line, 2), said),
+        Form::Hexkey => do_hexkey(seat, slots, calls::word(line, 2), said),
+        Form::Ranges => do_ranges(seat, slots, list, call),
+        Form::Summary => last_seen(seat, slots, k),
+        Form::Lookup | Form::Unknown | Form::Silent | Form::TooLong => finished(
+            seat,
+            Said::Nothing,
+        ),
     }
-    if call.form == calls::PIECE {
-        return do_piece(seat, slots, reports, line, handed);
-    }
-    if call.form == runs::SUMMARY {
-        return last_seen(seat, slots, k);
-    }
-    if call.form == calls::RANGES {
-        return do_ranges(seat, slots, list, call);
-    }
-    if call.form > calls::FRAME {
-        return do_other(seat, slots, line, call);
-    }
-    give(slots, line, call);
-    stamp(reports, call);
-    finished(listed(seat, k, call), tellings::text(tellings::END, 0, 0))
 }

@@ -8,10 +8,7 @@ ghost use Rattle.ages.specs.Ages.{age, over_twice, under_twice, ack_too_late, op
 pub fn age(now: u64, t: u64) -> u64
     ensures { result ≡ age now t }
 {
-    if t <= now {
-        return now - t;
-    }
-    0
+    now.saturating_sub(t)
 }
 
 // More than 2T: half of the age, rounded up, is above T.
@@ -32,18 +29,12 @@ pub fn under_twice(timeout: u64, age: u64) -> bool
 pub fn ack_too_late(timeout: u64, age: u64) -> bool
     ensures { result ≡ ack_too_late timeout age }
 {
-    if age <= 2000 {
-        return false;
-    }
-    timeout <= (age - 1) / 2
+    2000 < age && timeout <= (age - 1) / 2
 }
 
 // Younger than the greater of 4T and 4,000 ms: younger than one of them.
 pub fn opening_young(timeout: u64, age: u64) -> bool
     ensures { result ≡ opening_young timeout age }
 {
-    if age < 4000 {
-        return true;
-    }
-    age / 4 < timeout
+    age < 4000 || age / 4 < timeout
 }

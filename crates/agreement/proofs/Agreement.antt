@@ -1,4 +1,5 @@
 -- A heartbeat by both engines, and every line.
+use Rattle.std.specs.Prelude.{None, Option, Some}
 use mathlib.Core.Path.{◌≡◌, refl, ap}
 use mathlib.Core.List.{List}
 use Prim.Native.Nat.{ℕ}
@@ -12,8 +13,6 @@ use Rattle.frames.specs.Frames.{frame_of, bitmap_of}
 use Rattle.frames.specs.declared.Header.{Header}
 use Rattle.frames.specs.declared.Kind.{Kind}
 use Rattle.frames.specs.declared.Kind.TheVariants.{Heartbeat, Report, Fail, Request, Ack, Probe, Tick}
-use Rattle.frames.specs.declared.Decoded.{Decoded}
-use Rattle.frames.specs.declared.Decoded.TheVariants.{NotAFrame, Good}
 use Rattle.refusals.specs.Refusals.{refusals}
 use Rattle.ownership.specs.Claim.{Claimed}
 use Rattle.heartbeats.specs.Heartbeats.{with_sender, bumped, heartbeat}
@@ -22,6 +21,7 @@ use Rattle.kinds.specs.Kinds.{slotted_step, on_kind}
 use Rattle.node.specs.Step.{turned_away, taken_in, on_frame}
 use Rattle.agreement.specs.Agreement.{plain_kind, plain_taken_in, plain_frame, HeartbeatsAgree, LinesAgree}
 use Rattle.agreement.proofs.Senders.{same_sender}
+use Rattle.frames.specs.declared.Frame.{Frame}
 use Rattle.agreement.proofs.Claims.{same_claims}
 
 pub heartbeats_agree : HeartbeatsAgree
@@ -48,10 +48,10 @@ module _ (n : Node) (slots reports bitmap : List ℕ) where
   kinds_agree h Tick = refl
 
 -- past the checks
-taken_agree : (n : Node) (slots reports bitmap : List ℕ) (d : Decoded)
+taken_agree : (n : Node) (slots reports bitmap : List ℕ) (d : Option Frame)
     → plain_taken_in n slots reports bitmap d ≡ taken_in n slots reports bitmap d
-taken_agree n slots reports bitmap NotAFrame = refl
-taken_agree n slots reports bitmap (Good f) = kinds_agree _ slots reports bitmap f.header f.kind
+taken_agree n slots reports bitmap None = refl
+taken_agree n slots reports bitmap (Some f) = kinds_agree _ slots reports bitmap f.header f.kind
 
 pub lines_agree : LinesAgree
 unfolding plain_frame on_frame

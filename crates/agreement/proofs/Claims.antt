@@ -1,4 +1,5 @@
 -- The claims slot by slot: after every turn, what was done with what is left comes to the whole claim.
+use Rattle.std.specs.Prelude.{None, Option, Some}
 use mathlib.Core.Path.{◌≡◌, refl}
 use mathlib.Core.Bool.{Bool, true, false, cond}
 use mathlib.Core.List.{List}
@@ -9,8 +10,6 @@ use lib.Dec.{eqb, ltb}
 use lib.ListN.{length, get_or}
 use borrow.Author.Tests.{ltb-true}
 use Rattle.tables.specs.Sets.{claimed}
-use Rattle.tables.specs.declared.Found.{Found}
-use Rattle.tables.specs.declared.Found.TheVariants.{Nothing, At}
 use Rattle.state.specs.Node.{record_at}
 use Rattle.state.specs.declared.Node.{Node}
 use Rattle.records.specs.Known.{known_configs}
@@ -24,9 +23,9 @@ use Rattle.heartbeats.specs.Heartbeats.{claimed_by}
 use Rattle.slotwise.specs.Slotwise.{SoFar, nothing, binds, rebinds, first_of, finds_stale, one_slot, slots_below, all_slots}
 
 -- a stale slot is named if none was before
-first_of_lem : (z : Found) (s : ℕ) → first_of z s ≡ or_else z (At s)
-first_of_lem Nothing s = refl
-first_of_lem (At t) s = refl
+first_of_lem : (z : Option ℕ) (s : ℕ) → first_of z s ≡ or_else z (Some s)
+first_of_lem None s = refl
+first_of_lem (Some t) s = refl
 
 abbrev entry : ℕ → SoFar → ℕ
 entry s w = get_or w.slots s 0

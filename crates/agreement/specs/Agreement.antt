@@ -1,5 +1,5 @@
 -- The two engines agree: the plain one, which takes a heartbeat's claims slot by slot (slotwise), and the fast one (heartbeats).
-use Rattle.std.specs.Prelude.{◌≡◌, List, ℕ, length}
+use Rattle.std.specs.Prelude.{◌≡◌, List, ℕ, length, None, Option, Some}
 use Rattle.tables.specs.Checks.{checked}
 use Rattle.answers.specs.declared.Answer.TheVariants as answer
 use Rattle.state.specs.Changes.{arrived}
@@ -11,8 +11,6 @@ use Rattle.frames.specs.declared.Frame.{Frame}
 use Rattle.frames.specs.declared.Header.{Header}
 use Rattle.frames.specs.declared.Kind.{Kind}
 use Rattle.frames.specs.declared.Kind.TheVariants.{Heartbeat, Report, Fail, Request, Ack, Probe, Tick}
-use Rattle.frames.specs.declared.Decoded.{Decoded}
-use Rattle.frames.specs.declared.Decoded.TheVariants.{NotAFrame, Good}
 use Rattle.refusals.specs.Refusals.{refusals}
 use Rattle.heartbeats.specs.Heartbeats.{heartbeat}
 use Rattle.slotwise.specs.Slotwise.{plain_heartbeat}
@@ -37,9 +35,9 @@ plain_taken n slots reports bitmap f =
     plain_kind (arrived f.header.time f.header.epoch n) slots reports bitmap f.header f.kind
 
 -- what comes past the checks, which a line that is no frame does not pass
-abbrev pub plain_taken_in : Node → List ℕ → List ℕ → List ℕ → Decoded → Stepped
-plain_taken_in n slots reports bitmap NotAFrame = turned_away n slots reports answer.NotAFrame
-plain_taken_in n slots reports bitmap (Good f) = plain_taken n slots reports bitmap f
+abbrev pub plain_taken_in : Node → List ℕ → List ℕ → List ℕ → Option Frame → Stepped
+plain_taken_in n slots reports bitmap None = turned_away n slots reports answer.NotAFrame
+plain_taken_in n slots reports bitmap (Some f) = plain_taken n slots reports bitmap f
 
 -- a line, by the same checks
 unfoldable pub plain_frame : Node → List ℕ → List ℕ → List ℕ → Stepped

@@ -2,64 +2,59 @@
 #![tactic(auto)]
 
 ghost use Rattle.std.specs.Prelude.{◌≡◌, ◌*◌, ◌<◌, take};
-ghost use Rattle.lines.specs.Texts.{Text, puts};
+ghost use Rattle.lines.specs.Writers.{extended};
 ghost use Rattle.listing.specs.Listing.{range};
 ghost use Rattle.aloud.specs.Aloud.{span, owned_line, unowned_line, gap, spoken, ranges_of};
 
+use lines::Writer;
+
 // ---- a line
 
-fn wide(x: u16) -> u64
-    ensures { result ≡ x }
-{
-    x as u64
-}
-
-// How many slots there are from a first to a last one.
+// How many slots there are from a first to a last one; none if the last comes before the first. What is asked of the last one
+// here and below is no type: a first one may be 65,536, which u16 has not, and numbers of two types side by side are no plainer.
 fn span(first: u64, last: u64) -> u64
     requires { last < 65536 }
     ensures { result ≡ span first last }
 {
-    if last < first {
-        return 0;
-    }
-    last - first + 1
+    (last + 1).saturating_sub(first)
 }
 
 // Adds the line of a range: whose its slots are.
-fn put_owned(out: &mut [u8], at: usize, first: u64, last: u64, owner: u64) -> usize
+#[tactic(auto, unfolding(crate::specs::Aloud::owned_line, lines::specs::Texts::ascii))]
+fn put_owned(out: &mut Writer, first: u64, last: u64, owner: u64)
     requires { last < 65536 }
-    ensures { record { bytes = out.new; end = result } ≡ puts (record { bytes = out.old; end = at }) (owned_line (range first last owner)) }
+    ensures { out.new ≡ extended out.old (owned_line (range first last owner)) }
 {
     if first == last {
-        return phrases::put_filled(
+        phrases::put_filled(
             out,
-            at,
             b"slot %, that is 1 slot, belongs to node %\n",
             &[first, owner],
         );
+        return;
     }
     phrases::put_filled(
         out,
-        at,
         b"slots % to %, that is % slots, belong to node %\n",
         &[first, last, span(first, last), owner],
-    )
+    );
 }
 
 // Adds the line of slots that nobody owns.
-fn put_unowned(out: &mut [u8], at: usize, first: u64, last: u64) -> usize
+#[tactic(auto, unfolding(crate::specs::Aloud::unowned_line, lines::specs::Texts::ascii))]
+fn put_unowned(out: &mut Writer, first: u64, last: u64)
     requires { last < 65536 }
-    ensures { record { bytes = out.new; end = result } ≡ puts (record { bytes = out.old; end = at }) (unowned_line first last) }
+    ensures { out.new ≡ extended out.old (unowned_line first last) }
 {
     if first == last {
-        return phrases::put_filled(out, at, b"slot %, that is 1 slot, is unowned\n", &[first]);
+        phrases::put_filled(out, b"slot %, that is 1 slot, is unowned\n", &[first]);
+        return;
     }
     phrases::put_filled(
         out,
-        at,
         b"slots % to %, that is % slots, are unowned\n",
         &[first, last, span(first, last)],
-    )
+    );
 }
 
 // ---- a listing
@@ -76,33 +71,30 @@ pub fn front(list: &[u16], count: usize) -> &[u16]
 }
 
 // Adds the line of the unowned slots from one up to the next that is owned, if there are any.
-fn put_gap(out: &mut [u8], at: usize, margin: &[u8], from: u64, next: u64) -> usize
+#[tactic(auto, using(lines::proofs::Texts::puts_append), unfolding(crate::specs::Aloud::gap, lines::specs::Texts::puts))]
+fn put_gap(out: &mut Writer, margin: &[u8], from: u64, next: u64)
     requires { next < 65536 }
-    ensures { record { bytes = out.new; end = result } ≡ puts (record { bytes = out.old; end = at }) (gap margin.now from next) }
+    ensures { out.new ≡ extended out.old (gap margin.now from next) }
 {
     if next <= from {
-        return at;
+        return;
     }
-    let end = lines::put_text(out, at, margin);
-    put_unowned(out, end, from, next - 1)
+    out.put_text(margin);
+    put_unowned(out, from, next - 1);
 }
 
 // Adds the lines of a listing, read from the list that it was written to, each with a margin in front.
-pub fn put_listing(out: &mut [u8], at: usize, margin: &[u8], list: &[u16]) -> usize
-    ensures { record { bytes = out.new; end = result } ≡ puts (record { bytes = out.old; end = at }) (spoken margin.now (ranges_of list.now)) }
+pub fn put_listing(out: &mut Writer, margin: &[u8], list: &[u16])
+    ensures { out.new ≡ extended out.old (spoken margin.now (ranges_of list.now)) }
 {
-    let mut end = at;
     let mut next: u64 = 0;
-    let mut i: usize = 0;
-    while 3 <= list.len() - i {
-        let first = wide(list[i]);
-        let last = wide(list[i + 1]);
-        let owner = wide(list[i + 2]);
-        end = put_gap(out, end, margin, next, first);
-        end = lines::put_text(out, end, margin);
-        end = put_owned(out, end, first, last, owner);
-        next = last + 1;
-        i += 3;
+    let mut left = list;
+    while let [first, last, owner, rest @ ..] = left {
+        put_gap(out, margin, next, u64::from(*first));
+        out.put_text(margin);
+        put_owned(out, u64::from(*first), u64::from(*last), u64::from(*owner));
+        next = u64::from(*last) + 1;
+        left = rest;
     }
-    put_gap(out, end, margin, next, tables::SLOTS as u64)
+    put_gap(out, margin, next, u64::from(tables::SLOTS));
 }

@@ -1,4 +1,5 @@
 -- Checks made first, and then what they came to.
+use Rattle.std.specs.Prelude.{Err, Ok}
 use mathlib.Core.Path.{◌≡◌, refl}
 use mathlib.Core.Bool.{Bool, true, false, cond, not}
 use mathlib.Core.List.{List, [], ◌∷◌, ◌++◌}
@@ -7,22 +8,21 @@ use native.Mathlib.Omega.{arith}
 use lib.Dec.{eqb}
 use Rattle.tables.specs.Checks.{checked, all_of}
 use Rattle.answers.specs.Answers.{number}
+use Rattle.answers.specs.Refusing.{Check, cleared}
 use Rattle.answers.specs.declared.Answer.{Answer}
-use Rattle.answers.specs.declared.Check.{Check}
-use Rattle.answers.specs.declared.Check.TheVariants.{Passed, Refused}
 
 -- a refusal, or the rest
 abbrev pub on_check : {A : Type 0} → (Answer → A) → A → Check → A
-on_check refuse rest Passed = rest
-on_check refuse rest (Refused a) = refuse a
+on_check refuse rest (Ok tt) = rest
+on_check refuse rest (Err a) = refuse a
 
-step : {A : Type 0} (refuse : Answer → A) (rest : A) (t : Bool) (a : Answer) (x : A) (c : Check) → x ≡ on_check refuse rest c → cond t (refuse a) x ≡ on_check refuse rest (cond t (Refused a) c)
+step : {A : Type 0} (refuse : Answer → A) (rest : A) (t : Bool) (a : Answer) (x : A) (c : Check) → x ≡ on_check refuse rest c → cond t (refuse a) x ≡ on_check refuse rest (cond t (Err a) c)
 step refuse rest true a x c e = refl
 step refuse rest false a x c e = e
 
-pub by_check : {A : Type 0} (refuse : Answer → A) (rows : List (Bool × Answer)) (rest : A) → checked refuse rows rest ≡ on_check refuse rest (checked Refused rows Passed)
+pub by_check : {A : Type 0} (refuse : Answer → A) (rows : List (Bool × Answer)) (rest : A) → checked refuse rows rest ≡ on_check refuse rest (checked Err rows cleared)
 by_check refuse [] rest = refl
-by_check refuse (row ∷ rows) rest = step refuse rest row.0 row.1 (checked refuse rows rest) (checked Refused rows Passed) (by_check refuse rows rest)
+by_check refuse (row ∷ rows) rest = step refuse rest row.0 row.1 (checked refuse rows rest) (checked Err rows cleared) (by_check refuse rows rest)
 
 -- ---- a check by the number of its answer
 
@@ -40,11 +40,11 @@ fell a row rows q f = go (eqb (number row.1) a)
     go false = f
 
 -- where none refused, the test for each number failed
-pub unrefused : (a : ℕ) (rows : List (Bool × Answer)) → checked Refused rows Passed ≡ Passed → test_for a rows ≡ false
+pub unrefused : (a : ℕ) (rows : List (Bool × Answer)) → checked Err rows cleared ≡ cleared → test_for a rows ≡ false
 unrefused a [] e = refl
 unrefused a (row ∷ rows) e = go row.0 refl e (unrefused a rows)
   where
-    go : (t : Bool) → row.0 ≡ t → cond t (Refused row.1) (checked Refused rows Passed) ≡ Passed → (checked Refused rows Passed ≡ Passed → test_for a rows ≡ false) → test_for a (row ∷ rows) ≡ false
+    go : (t : Bool) → row.0 ≡ t → cond t (Err row.1) (checked Err rows cleared) ≡ cleared → (checked Err rows cleared ≡ cleared → test_for a rows ≡ false) → test_for a (row ∷ rows) ≡ false
     go true q e f = let z : ◌≡◌ {A = ℕ} 0 1 = cc in absurd (omega arith)
     go false q e f = fell a row rows q (f e)
 
@@ -72,6 +72,6 @@ past P q refuse (row ∷ rows) rest all f g = go row.0 refl (q row.1) refl all (
     go false e true e' all h = h all (λ k. g (λ a. fell a row rows e (k a)))
 
 -- checks one list after another: the first list's refusal, or the second list
-pub in_two : {A : Type 0} (refuse : Answer → A) (first second : List (Bool × Answer)) (rest : A) → checked refuse (first ++ second) rest ≡ on_check refuse (checked refuse second rest) (checked Refused first Passed)
+pub in_two : {A : Type 0} (refuse : Answer → A) (first second : List (Bool × Answer)) (rest : A) → checked refuse (first ++ second) rest ≡ on_check refuse (checked refuse second rest) (checked Err first cleared)
 in_two refuse [] second rest = refl
-in_two refuse (row ∷ first) second rest = step refuse (checked refuse second rest) row.0 row.1 (checked refuse (first ++ second) rest) (checked Refused first Passed) (in_two refuse first second rest)
+in_two refuse (row ∷ first) second rest = step refuse (checked refuse second rest) row.0 row.1 (checked refuse (first ++ second) rest) (checked Err first cleared) (in_two refuse first second rest)

@@ -1,6 +1,5 @@
 -- What documents 01 and 02 give each answer: its number, and the values beside it.
-use Rattle.std.specs.Prelude.{ℕ, ◌≡◌}
-use Rattle.tables.specs.declared.Found.{Found}
+use Rattle.std.specs.Prelude.{ℕ, ◌≡◌, Option}
 use Rattle.answers.specs.declared.Answer.{Answer}
 use Rattle.answers.specs.declared.Answer.TheVariants.{
   Done,
@@ -47,7 +46,7 @@ use Rattle.answers.specs.declared.Answer.TheVariants.{
 -- the 0 of a listing how many ranges there are, beside 40 how many the list has no room for
 pub data Values : Type 0 where
   no_values : Values
-  counts : (bound rebound : ℕ) (stale : Found) → Values
+  counts : (bound rebound : ℕ) (stale : Option ℕ) → Values
   at_slot : ℕ → Values
   passed : ℕ → Values
   ranges : ℕ → Values

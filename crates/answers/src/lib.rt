@@ -4,15 +4,13 @@
 ghost use Rattle.std.specs.Prelude.{◌≡◌};
 ghost use Rattle.answers.specs.Answers.{number};
 
-use tables::Found;
-
 // What a heartbeat's claims came to: how many slots were newly bound, how many were rebound, and the lowest slot at which
 // the sender is stale.
 #[derive(Clone, Copy)]
 pub struct Tally {
     pub bound: usize,
     pub rebound: usize,
-    pub stale: Found,
+    pub stale: Option<usize>,
 }
 
 #[derive(Clone, Copy)]
@@ -62,12 +60,8 @@ pub enum Answer {
     ListShort(usize),
 }
 
-// What checks in order come to.
-#[derive(Clone, Copy)]
-pub enum Check {
-    Passed,
-    Refused(Answer),
-}
+// What checks in order come to: nothing that is refused, or the first answer that applies.
+pub type Check = Result<(), Answer>;
 
 // The number that documents 01 and 02 give the answer.
 pub fn number(answer: Answer) -> u8

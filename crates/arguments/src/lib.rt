@@ -4,9 +4,12 @@
 
 ghost use Rattle.std.specs.Prelude.{◌≡◌, ◌<◌};
 ghost use Rattle.tables.specs.Sizes.{slot_count};
-ghost use Rattle.lines.specs.Texts.{Text, puts};
+ghost use Rattle.lines.specs.Texts.{puts};
+ghost use Rattle.lines.specs.Writers.{extended};
 ghost use Rattle.hexdigits.specs.Hex.{byte_at};
 ghost use Rattle.arguments.specs.Bytes.{chosen, given, bit, nibble, digit_of, digits_below, key_bytes, handed, piece_bytes};
+
+use lines::Writer;
 
 // The digits of a bitmap that claims slots of a table.
 const DIGITS: usize = tables::SLOTS as usize / 4;
@@ -25,10 +28,8 @@ fn chosen(old: u16, s: usize, first: u64, last: u64, x: u16) -> u16
 pub fn give(table: &mut [u16], first: u64, last: u64, x: u16)
     ensures { table.new ≡ given first last x table.old }
 {
-    let mut s: usize = 0;
-    while s < table.len() {
+    for s in 0..table.len() {
         table[s] = chosen(table[s], s, first, last, x);
-        s += 1;
     }
 }
 
@@ -49,6 +50,7 @@ fn nibble(table: &[u16], s: usize) -> u8
 }
 
 // Digit j of the bitmap that has a bit for each entry of a table.
+#[tactic(auto, unfolding(crate::specs::Bytes::digit_of))]
 fn digit(table: &[u16], j: usize) -> u8
     requires { j < 4096 }
     ensures { result ≡ digit_of table.now j }
@@ -57,16 +59,12 @@ fn digit(table: &[u16], j: usize) -> u8
     v + 48 + v / 10 * 39
 }
 
-pub fn put_digits(table: &[u16], out: &mut [u8], at: usize) -> usize
-    ensures { record { bytes = out.new; end = result } ≡ puts (record { bytes = out.old; end = at }) (digits_below table.now 4096) }
+pub fn put_digits(table: &[u16], out: &mut Writer)
+    ensures { out.new ≡ extended out.old (digits_below table.now 4096) }
 {
-    let mut end = at;
-    let mut j: usize = 0;
-    while j < DIGITS {
-        end = lines::put(out, end, digit(table, j));
-        j += 1;
+    for j in 0..DIGITS {
+        out.put(digit(table, j));
     }
-    end
 }
 
 // The node that a frame names, its sender or its candidate: the second byte.
@@ -76,18 +74,22 @@ pub fn named(frame: &[u8]) -> u8
     hexdigits::byte_at(frame, 1)
 }
 
-// The bytes of a key that is given in hexadecimal, from the front of a buffer on.
+fn put_key(digits: &[u8], out: &mut Writer)
+    ensures { out.new ≡ extended out.old (key_bytes digits.now) }
+{
+    for i in 0..digits.len() / 2 {
+        out.put(hexdigits::byte_at(digits, i));
+    }
+}
+
+// The bytes of a key that is given in hexadecimal, from the front of a buffer on. A function that is lent what to write, for this
+// one and `piece`, would be longer than both.
 pub fn key(digits: &[u8], out: &mut [u8]) -> usize
     ensures { record { bytes = out.new; end = result } ≡ puts (record { bytes = out.old; end = 0 }) (key_bytes digits.now) }
 {
-    let count = digits.len() / 2;
-    let mut end: usize = 0;
-    let mut i: usize = 0;
-    while i < count {
-        end = lines::put(out, end, hexdigits::byte_at(digits, i));
-        i += 1;
-    }
-    end
+    let mut text = Writer { bytes: out, end: 0 };
+    put_key(digits, &mut text);
+    text.end
 }
 
 // A character of a piece: a `/` stands for a newline.
@@ -100,15 +102,19 @@ fn handed(character: u8) -> u8
     character
 }
 
+fn put_piece(word: &[u8], out: &mut Writer)
+    ensures { out.new ≡ extended out.old (piece_bytes word.now) }
+{
+    for character in word {
+        out.put(handed(*character));
+    }
+}
+
 // The bytes of a piece of a feed, from the front of a buffer on.
 pub fn piece(word: &[u8], out: &mut [u8]) -> usize
     ensures { record { bytes = out.new; end = result } ≡ puts (record { bytes = out.old; end = 0 }) (piece_bytes word.now) }
 {
-    let mut end: usize = 0;
-    let mut i: usize = 0;
-    while i < word.len() {
-        end = lines::put(out, end, handed(word[i]));
-        i += 1;
-    }
-    end
+    let mut text = Writer { bytes: out, end: 0 };
+    put_piece(word, &mut text);
+    text.end
 }

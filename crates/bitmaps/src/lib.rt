@@ -10,14 +10,16 @@ fn eight(bitmap: &[u8], k: usize) -> u64
     requires { k + 8 ≤ length bitmap.now }
     ensures { result ≡ word_of (claimed bitmap.now) (8 * k) 64 }
 {
-    bitmap[k] as u64
-        + bitmap[k + 1] as u64 * 256
-        + bitmap[k + 2] as u64 * 65536
-        + bitmap[k + 3] as u64 * 16777216
-        + bitmap[k + 4] as u64 * 4294967296
-        + bitmap[k + 5] as u64 * 1099511627776
-        + bitmap[k + 6] as u64 * 281474976710656
-        + bitmap[k + 7] as u64 * 72057594037927936
+    u64::from_le_bytes([
+        bitmap[k],
+        bitmap[k + 1],
+        bitmap[k + 2],
+        bitmap[k + 3],
+        bitmap[k + 4],
+        bitmap[k + 5],
+        bitmap[k + 6],
+        bitmap[k + 7],
+    ])
 }
 
 // The bytes from place k on where fewer than eight are left.
@@ -26,15 +28,14 @@ fn few(bitmap: &[u8], k: usize) -> u64
     ensures { result ≡ word_of (claimed bitmap.now) (8 * k) 64 }
 {
     let mut word: u64 = 0;
-    let mut i = bitmap.len();
-    while i > k {
-        i -= 1;
-        word = word * 256 + bitmap[i] as u64;
+    for i in (k..bitmap.len()).rev() {
+        word = word * 256 + u64::from(bitmap[i]);
     }
     word
 }
 
 // The claims on the 64 slots of the eight bytes from place k on; past the bitmap's end nothing is claimed.
+#[tactic(auto, using(crate::proofs::Bytes::word_ended))]
 fn word_from(bitmap: &[u8], k: usize) -> u64
     ensures { result ≡ word_of (claimed bitmap.now) (8 * k) 64 }
 {

@@ -2,6 +2,7 @@
 use Rattle.std.specs.Prelude.{ℕ, Bool, cond, not, List, [], ◌∷◌, length, get_or, set, eqb, ltb}
 use Rattle.tables.specs.Sizes.{slot_count}
 use Rattle.tables.specs.Checks.{any_of}
+use Rattle.cache.specs.declared.Entry.{Entry}
 
 -- two lent lists: each slot's owner, and beside it the configEpoch that the owner was named with
 pub record Map : Type 0 where
@@ -16,10 +17,6 @@ unfoldable pub wrong_length : Map → Bool
 wrong_length map = any_of (not (eqb (length map.owners) slot_count) ∷ not (eqb (length map.epochs) slot_count) ∷ [])
 
 -- a slot's entry
-pub record Entry : Type 0 where
-  pub owner : ℕ
-  pub epoch : ℕ
-
 abbrev pub entry_at : Map → ℕ → Entry
 entry_at map s = record { owner = get_or map.owners s 0; epoch = get_or map.epochs s 0 }
 

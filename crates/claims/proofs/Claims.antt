@@ -1,16 +1,18 @@
 -- An empty bitmap, byte by byte and slot by slot.
 use mathlib.Core.Path.{◌≡◌, refl, sym, ap, ◌∙◌}
-use mathlib.Core.Bool.{Bool, true, false, cond}
+use mathlib.Core.Bool.{Bool, true, false, cond, ◌&&◌}
+use mir.Syntax.{w8}
+use mir.Val.{Fits}
+use Rattle.std.specs.List.{list_all}
 use mathlib.Core.List.{List, [], ◌∷◌}
-use Prim.Native.Nat.{ℕ, zero, suc, ◌+◌, ◌-◌, ◌*◌, ◌/◌, ◌%◌, ◌^◌, ◌≤◌, ◌<◌}
+use Prim.Native.Nat.{ℕ, zero, suc, ◌+◌, ◌-◌, ◌*◌, ◌/◌, ◌%◌, ◌^◌, ◌<◌}
 use native.Mathlib.Nat.{mod-one, le_of_suc-le-suc}
 use native.Mathlib.Numerals.{add-one}
 use native.Mathlib.Omega.{arith}
 use native.Mathlib.Decide.{dec_lt, ℕ_discrete}
 use lib.Dec.{eqb}
-use lib.ListN.{length, get_or, drop, drop_of_length-le}
+use lib.ListN.{get_or}
 use lib.Pow.{mod-pow-add}
-use lib.Seq.{drop-cons}
 use borrow.Author.Tests.{eq-eqb, ne_eqb, eqb-true, eqb-false}
 use Rattle.tables.specs.Sets.{bit, claimed}
 use Rattle.tables.proofs.Checks.{never}
@@ -18,17 +20,18 @@ use Rattle.tables.proofs.Groups.{first_group, later_group, bit_suc}
 use Rattle.tables.proofs.Sets.{bit_zero}
 use Rattle.claims.specs.Claims.{empty, EmptyExactly}
 
--- ---- a loop over the bytes that has come to place k
+-- ---- all of its bytes are 0
 
-module _ (bitmap : List ℕ) (k : ℕ) where
-  pub empty_past : k < length bitmap → get_or bitmap k 0 ≡ 0 → empty (drop k bitmap) ≡ empty (drop (k + 1) bitmap)
-  empty_past h e = rw (drop-cons bitmap k 0 h, e, add-one k)
-
-  pub empty_here : k < length bitmap → get_or bitmap k 0 < 256 → (get_or bitmap k 0 ≡ 0 → ⊥) → empty (drop k bitmap) ≡ false
-  empty_here h l d = rw (drop-cons bitmap k 0 h, ne_eqb (get_or bitmap k 0 % 256) 0 (λ q. d (omega arith)))
-
-  pub empty_ended : length bitmap ≤ k → empty (drop k bitmap) ≡ true
-  empty_ended h = rw (drop_of_length-le bitmap h)
+pub all_zero : (bitmap : List ℕ) → ((k : ℕ) → Fits w8 (get_or bitmap k 0)) → list_all (λ b. eqb b 0) bitmap ≡ empty bitmap
+all_zero [] f = refl
+all_zero (b ∷ bs) f =
+    let l : b < 256 = (f 0).fits in
+    let e : b ≡ b % 256 = omega arith in
+    ap (λ (x : ℕ). eqb x 0 && list_all (λ b. eqb b 0) bs) e ∙ by (eqb (b % 256) 0) (all_zero bs (λ k. f (suc k)))
+  where
+    by : (t : Bool) → list_all (λ b. eqb b 0) bs ≡ empty bs → (t && list_all (λ b. eqb b 0) bs) ≡ cond t (empty bs) false
+    by true h = h
+    by false h = refl
 
 -- ---- the lowest bits of a number, the lowest of them apart
 

@@ -1,4 +1,5 @@
 -- The search for a newer owner, 64 slots at a time: it goes on over slots that are not claimed.
+use Rattle.std.specs.Prelude.{None, Some}
 use mathlib.Core.Path.{◌≡◌, refl, sym, ◌∙◌}
 use mathlib.Core.Bool.{Bool, true, false}
 use mathlib.Core.List.{List}
@@ -8,7 +9,6 @@ use native.Mathlib.Omega.{arith}
 use lib.ListN.{length, drop, get_or}
 use Rattle.tables.specs.Lists.{first_from}
 use Rattle.tables.specs.Sets.{claimed}
-use Rattle.tables.specs.declared.Found.TheVariants.{Nothing, At}
 use Rattle.tables.proofs.Walks.{first_here, first_past, first_ended, stretch}
 use Rattle.bitmaps.proofs.Claims.{Carries}
 
@@ -31,7 +31,7 @@ module _ (p : ℕ → ℕ → Bool) (xs : List ℕ) where
   pub passed : {s : ℕ} → Come s → (s' : ℕ) → s ≤ s' → ((k : ℕ) → s ≤ k → k < s' → k < length xs → p k (get_or xs k 0) ≡ false) → Come s'
   passed {s} c s' h f = let e : s + (s' - s) ≡ s' = omega arith in record { to = c.to ∙ (rw e at (stretch (λ k. first_from p k (drop k xs)) s (s' - s) (λ k a t. still k (f k a (omega arith))))) }
 
-  pub arrived : {s : ℕ} → Come s → length xs ≤ s → Nothing ≡ first_from p 0 xs
+  pub arrived : {s : ℕ} → Come s → length xs ≤ s → None ≡ first_from p 0 xs
   arrived {s} c h = sym (c.to ∙ first_ended p xs s h)
 
   -- over slots that are not claimed, where only a claimed one passes
@@ -39,7 +39,7 @@ module _ (p : ℕ → ℕ → Bool) (xs : List ℕ) where
   carries m only = record { over = λ {s} {s'} h f c. passed c s' h (λ k a t u. only k (get_or xs k 0) (f k a t u)) }
 
   -- a turn: it is found here, or not
-  pub here : (s : ℕ) → Come s → s < length xs → p s (get_or xs s 0) ≡ true → At s ≡ first_from p 0 xs
+  pub here : (s : ℕ) → Come s → s < length xs → p s (get_or xs s 0) ≡ true → Some s ≡ first_from p 0 xs
   here s c h e = sym (c.to ∙ first_here p xs s 0 h e)
 
   pub not_here : (s : ℕ) → Come s → p s (get_or xs s 0) ≡ false → Come (s + 1)

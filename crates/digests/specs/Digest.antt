@@ -1,14 +1,12 @@
 -- Answers as one number, for callers that take no struct.
-use Rattle.std.specs.Prelude.{ℕ, ◌+◌, ◌*◌, ◌%◌}
-use Rattle.tables.specs.declared.Found.{Found}
-use Rattle.tables.specs.declared.Found.TheVariants.{Nothing, At}
+use Rattle.std.specs.Prelude.{ℕ, ◌+◌, ◌*◌, ◌%◌, None, Option, Some}
 use Rattle.answers.specs.Answers.{number}
 use Rattle.answers.specs.declared.Tally.{Tally}
 use Rattle.state.specs.declared.Outcome.{Outcome}
 
-abbrev pub place : Found → ℕ
-place Nothing = 0
-place (At s) = s % 65535 + 1
+abbrev pub place : Option ℕ → ℕ
+place None = 0
+place (Some s) = s % 65535 + 1
 
 -- a claim's: bound, rebound and the stale slot plus one, 16 bits each from the lowest on (0 for no stale slot; every number is
 -- taken modulo 2^16)

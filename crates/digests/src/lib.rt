@@ -1,23 +1,22 @@
 // Answers and frames in one number each: the C interface passes numbers and slices only.
 #![tactic(auto)]
 
-ghost use Rattle.std.specs.Prelude.{◌≡◌, [], ◌∷◌};
-ghost use Rattle.frames.specs.Lines.{verdict_byte, echo_byte, role_bytes, kind_bytes};
+ghost use Rattle.std.specs.Prelude.{◌≡◌};
+ghost use Rattle.frames.specs.Lines.{verdict_byte, echo_byte, kind_bytes};
 ghost use Rattle.digests.specs.Digest.{place, digest, outcome_digest};
-ghost use Rattle.digests.specs.Frames.{head_bytes, mixed};
+ghost use Rattle.digests.specs.Frames.{mixed};
 
 use answers::Tally;
 use frames::{Header, Kind};
 use state::{Echo, Outcome, Role, Verdict};
-use tables::Found;
 
 // A place, counted from 1: 0 for nothing.
-pub fn place(found: Found) -> u64
+pub fn place(found: Option<usize>) -> u64
     ensures { result ≡ place found }
 {
     match found {
-        Found::Nothing => 0,
-        Found::At(s) => (s % 65535 + 1) as u64,
+        None => 0,
+        Some(s) => (s % 65535 + 1) as u64,
     }
 }
 
@@ -27,41 +26,23 @@ pub fn of_tally(tally: Tally) -> u64
 {
     let bound = (tally.bound % 65536) as u64;
     let rebound = (tally.rebound % 65536) as u64;
-    let stale = tally.stale;
-    bound + rebound * 65536 + place(stale) * 4294967296
-}
-
-fn wide(x: u8) -> u64
-    ensures { result ≡ x }
-{
-    x as u64
+    bound + rebound * 65536 + place(tally.stale) * 4294967296
 }
 
 // A call's answer and epochs.
 pub fn of_outcome(outcome: Outcome) -> u64
     ensures { result ≡ outcome_digest outcome }
 {
-    let answer = outcome.answer;
     let node = outcome.node;
-    wide(answers::number(answer)) + node.current % 65536 * 256 + node.voted % 65536 * 16777216
+    u64::from(answers::number(outcome.answer))
+        + node.current % 65536 * 256
+        + node.voted % 65536 * 16777216
 }
 
-// The first four bytes of a frame.
-#[derive(Clone, Copy)]
-struct Head {
-    kind: u8,
-    x: u8,
-    y: u8,
-    z: u8,
-}
-
-fn mixed(head: Head, header: Header) -> u64
-    ensures { result ≡ mixed (head_bytes head) header }
+fn mixed(head: [u8; 4], header: Header) -> u64
+    ensures { result ≡ mixed head header }
 {
-    let four = wide(head.kind)
-        + wide(head.x) * 256
-        + wide(head.y) * 65536
-        + wide(head.z) * 16777216;
+    let four = u64::from(u32::from_le_bytes(head));
     four ^ header.epoch ^ (header.config << 1) ^ (header.time << 2)
 }
 
@@ -84,37 +65,25 @@ fn echo_byte(echo: Echo) -> u8
     }
 }
 
-fn head_of(kind: u8, x: u8, y: u8, z: u8) -> Head
-    ensures { head_bytes result ≡ kind ∷ x ∷ y ∷ z ∷ [] }
-{
-    Head { kind, x, y, z }
-}
-
-fn of_heartbeat(sender: u8, role: Role) -> Head
-    ensures { head_bytes result ≡ 1 ∷ sender ∷ role_bytes role }
-{
-    match role {
-        Role::Master => head_of(1, sender, 0, 0),
-        Role::Replica(followed) => head_of(1, sender, 1, followed),
-    }
-}
-
 // The first four bytes of a frame.
-fn kind_head(kind: Kind) -> Head
-    ensures { head_bytes result ≡ kind_bytes kind }
+fn kind_head(kind: Kind) -> [u8; 4]
+    ensures { result ≡ kind_bytes kind }
 {
     match kind {
-        Kind::Heartbeat { sender, role } => of_heartbeat(sender, role),
+        Kind::Heartbeat { sender, role } => match role {
+            Role::Master => [1, sender, 0, 0],
+            Role::Replica(followed) => [1, sender, 1, followed],
+        },
         Kind::Report {
             reporter,
             subject,
             verdict,
-        } => head_of(2, reporter, subject, verdict_byte(verdict)),
-        Kind::Fail { sender, subject } => head_of(3, sender, subject, 0),
-        Kind::Request { candidate } => head_of(4, candidate, 0, 0),
-        Kind::Ack { voter, candidate } => head_of(5, voter, candidate, 0),
-        Kind::Probe { subject, echo } => head_of(6, subject, echo_byte(echo), 0),
-        Kind::Tick => head_of(7, 0, 0, 0),
+        } => [2, reporter, subject, verdict_byte(verdict)],
+        Kind::Fail { sender, subject } => [3, sender, subject, 0],
+        Kind::Request { candidate } => [4, candidate, 0, 0],
+        Kind::Ack { voter, candidate } => [5, voter, candidate, 0],
+        Kind::Probe { subject, echo } => [6, subject, echo_byte(echo), 0],
+        Kind::Tick => [7, 0, 0, 0],
     }
 }
 

@@ -1,5 +1,5 @@
 -- Bytes as they lie in memory: entries two by two.
-use mathlib.Core.Path.{◌≡◌, refl, sym, ap, ◌∙◌}
+use mathlib.Core.Path.{◌≡◌, sym, ap, ◌∙◌}
 use mathlib.Core.List.{List, ◌∷◌, ◌++◌, append-nil}
 use Prim.Native.Nat.{ℕ, suc, ◌+◌, ◌*◌, ◌≤◌, ◌<◌}
 use native.Mathlib.Omega.{arith}
@@ -23,9 +23,6 @@ next_pair input i h =
 pub record Written (input slots : List ℕ) (s : ℕ) : Type 0 where
   pub room : 2 * length slots ≡ length input
   pub done : pairs input ≡ take s slots ++ pairs (drop (2 * s) input)
-
-pub written_none : (input slots : List ℕ) → length input ≡ 2 * length slots → Written input slots 0
-written_none input slots h = record { room = sym h; done = refl }
 
 module _ {input slots : List ℕ} {s : ℕ} (w : Written input slots s) where
   pub write : (v : ℕ) → s < length slots → v ≡ pair_at input (2 * s) → Written input (set slots s v) (s + 1)

@@ -1,6 +1,8 @@
 -- Text: its digits from a place on, and entries that take their digits in from below.
-use mathlib.Core.Path.{◌≡◌, sym, ap, ◌∙◌}
-use mathlib.Core.Bool.{Bool, true, false, cond}
+use Rattle.std.specs.Prelude.{count_by}
+use Rattle.std.proofs.lemmas.List.Recursion.{is_count_by}
+use mathlib.Core.Path.{◌≡◌, refl, sym, ap, ◌∙◌}
+use mathlib.Core.Bool.{Bool, true, false, cond, not}
 use mathlib.Core.List.{List, [], ◌∷◌, ◌++◌, append-nil}
 use Prim.Native.Nat.{ℕ, suc, ◌+◌, ◌*◌, ◌/◌, ◌%◌, ◌≤◌, ◌<◌}
 use native.Mathlib.Omega.{arith}
@@ -26,20 +28,14 @@ module _ (input : List ℕ) (i : ℕ) where
   unfolding digits
   digits_ended h = rw (drop_of_length-le input h)
 
--- of the digits, those before place i are counted
-pub record Counted (input : List ℕ) (count i : ℕ) : Type 0 where
-  pub few : count ≤ i
-  pub rest : count + length (digits (drop i input)) ≡ length (digits input)
-
-module _ {input : List ℕ} {count i : ℕ} (s : Counted input count i) where
-  pub space_passed : i < length input → is_space (get_or input i 0) ≡ true → Counted input count (i + 1)
-  space_passed h e = record { few = omega (arith, s.few); rest = rw (← space_here input i h e) s.rest }
-
-  pub digit_counted : i < length input → is_space (get_or input i 0) ≡ false → Counted input (count + 1) (i + 1)
-  digit_counted h e = record { few = omega (arith, s.few); rest = omega (arith, s.rest, ap (λ (ds : List ℕ). length ds) (digit_here input i h e)) }
-
-  pub all_counted : length input ≤ i → count ≡ length (digits input)
-  all_counted h = omega (arith, s.rest, ap (λ (ds : List ℕ). length ds) (digits_ended input i h))
+-- there are as many as characters that are no spaces
+pub digits_counted : (input : List ℕ) → length (digits input) ≡ count_by (λ c. not (is_space c)) input
+unfolding digits
+digits_counted = is_count_by (λ cs. length (digits cs)) (λ c. not (is_space c)) refl (λ c cs. go (is_space c) (digit (small c)) (digits cs))
+  where
+    go : (t : Bool) (d : ℕ) (ds : List ℕ) → length (cond t ds (d ∷ ds)) ≡ cond (not t) (1 + length ds) (length ds)
+    go true d ds = refl
+    go false d ds = omega arith
 
 -- ---- each is below 16
 

@@ -1,13 +1,11 @@
 -- A slot table as it is written out, read back: as it lies in memory, or as text.
-use Rattle.std.specs.Prelude.{◌≡◌, ℕ, ◌+◌, ◌*◌, ◌≤◌, ◌<◌, Bool, not, cond, List, [], ◌∷◌, eqb, leb, length, get_or}
+use Rattle.std.specs.Prelude.{◌≡◌, ℕ, ◌+◌, ◌*◌, ◌≤◌, ◌<◌, Bool, not, cond, List, [], ◌∷◌, eqb, leb, length, get_or, None, Option, Some, Result, Ok, Err, ⊤}
 use Rattle.tables.specs.Sizes.{slot_count, node_room, unowned}
 use Rattle.tables.specs.Checks.{all_of, any_of}
 use Rattle.tables.specs.Lists.{first_at}
-use Rattle.tables.specs.declared.Found.{Found}
-use Rattle.tables.specs.declared.Found.TheVariants.{Nothing, At}
 use Rattle.hexdigits.specs.Hex.{is_digit, digit}
-use Rattle.dumps.specs.declared.Reading.{Reading}
-use Rattle.dumps.specs.declared.Reading.TheVariants.{Table, Odd, Digits}
+use Rattle.dumps.specs.declared.Fault.{Fault}
+use Rattle.dumps.specs.declared.Fault.TheVariants.{Odd, Digits}
 
 -- ---- in memory
 
@@ -47,27 +45,27 @@ fours (a ∷ b ∷ c ∷ d ∷ rest) = (((a * 16 + b) * 16 + c) * 16 + d) ∷ fo
 -- ---- which of the two it is
 
 -- the first byte that no text has
-abbrev pub first_odd : List ℕ → Found
+abbrev pub first_odd : List ℕ → Option ℕ
 first_odd input = first_at (λ place c. not (is_text c)) input
 
 -- what is told, and the table then
 pub record Outcome : Type 0 where
-  pub reading : Reading
+  pub reading : Result ⊤ Fault
   pub slots : List ℕ
 
 -- an input with such a byte is a table in memory, if it has the length of one
 abbrev pub from_memory : ℕ → List ℕ → List ℕ → Outcome
 from_memory odd input slots =
-    cond (eqb (length input) (2 * slot_count)) (record { reading = Table; slots = pairs input }) (record { reading = Odd odd; slots = slots })
+    cond (eqb (length input) (2 * slot_count)) (record { reading = Ok tt; slots = pairs input }) (record { reading = Err (Odd odd); slots = slots })
 
 -- any other is text, and a table if it has the digits of one
 abbrev pub from_text : List ℕ → List ℕ → Outcome
 from_text ds slots =
-    cond (eqb (length ds) (4 * slot_count)) (record { reading = Table; slots = fours ds }) (record { reading = Digits (length ds); slots = slots })
+    cond (eqb (length ds) (4 * slot_count)) (record { reading = Ok tt; slots = fours ds }) (record { reading = Err (Digits (length ds)); slots = slots })
 
-abbrev pub by_form : Found → List ℕ → List ℕ → Outcome
-by_form Nothing input slots = from_text (digits input) slots
-by_form (At odd) input slots = from_memory odd input slots
+abbrev pub by_form : Option ℕ → List ℕ → List ℕ → Outcome
+by_form None input slots = from_text (digits input) slots
+by_form (Some odd) input slots = from_memory odd input slots
 
 -- what an input is read as, and the table that it leaves: a fault leaves the table as it was
 unfoldable pub read_into : List ℕ → List ℕ → Outcome
@@ -77,7 +75,7 @@ read_into input slots = by_form (first_odd input) input slots
 
 -- nothing is lost by taking a text for one: in memory its entries would be no node's numbers, so that no slot would be owned
 abbrev pub NothingLost : List ℕ → Type 0
-NothingLost input = first_odd input ≡ Nothing → (s : ℕ) → s < length (pairs input) → node_room ≤ get_or (pairs input) s 0
+NothingLost input = first_odd input ≡ None → (s : ℕ) → s < length (pairs input) → node_room ≤ get_or (pairs input) s 0
 
 -- node 12 and an unowned entry, in memory, and as the text "000C", a line end and "ff Ff"
 abbrev pub Examples : Type 0

@@ -1,41 +1,17 @@
--- Laws that the code of `arrays_sound` rests on: what is recorded of this node, and the marks passed one after the other.
+-- Laws that the code of `arrays_sound` rests on: the marks passed one after the other.
 use mathlib.Core.Path.{◌≡◌, refl, sym, ap}
-use mathlib.Core.Bool.{Bool, true, false, cond, not}
-use mathlib.Core.List.{[], ◌∷◌}
-use Prim.Native.Nat.{ℕ, zero, suc, ◌+◌, ◌-◌, ◌^◌, ◌≤◌, ◌<◌}
+use mathlib.Core.Bool.{true, false}
+use Prim.Native.Nat.{ℕ, zero, suc, ◌+◌, ◌-◌, ◌≤◌, ◌<◌}
 use native.Mathlib.Numerals.{add-one}
 use native.Mathlib.Omega.{arith}
-use lib.Dec.{eqb, ltb}
-use borrow.Author.Tests.{lt-ltb, le-ltb, ltb-true}
-use Rattle.tables.specs.Sizes.{slot_count}
+use borrow.Author.Tests.{lt-ltb, le-ltb}
 use Rattle.tables.specs.Below.{every}
-use Rattle.tables.proofs.Checks.{never, part, fails}
 use Rattle.tables.proofs.Below.{every_fails, every_more}
-use Rattle.state.specs.Node.{record_at, mark_at, peer_of}
+use Rattle.state.specs.Node.{mark_at}
 use Rattle.state.specs.declared.Node.{Node}
-use Rattle.soundness.specs.Sound.{sound, sound_checks, election_sound, own_clear, mark_sound_at, marks_sound, slot_in_order, marks_ascend}
-
--- ---- this node itself: one of two tests fails, or both hold
-
-pub own_fails : (n : Node) → cond (own_clear (record_at n n.me)) (election_sound n n.election) false ≡ false → false ≡ sound n
-unfolding sound
-own_fails n e = go (own_clear (record_at n n.me)) refl e
-  where
-    go : (t : Bool) → own_clear (record_at n n.me) ≡ t → cond t (election_sound n n.election) false ≡ false → false ≡ sound n
-    go true q e = fails 6 (sound_checks n) e
-    go false q e = fails 9 (sound_checks n) q
-
-pub both_hold : (a b : Bool) → cond a b false ≡ true → (a ≡ true) × (b ≡ true)
-both_hold true b e = (refl, e)
-both_hold false b e = never (sym e)
+use Rattle.soundness.specs.Sound.{mark_sound_at, marks_sound, slot_in_order, marks_ascend}
 
 -- ---- marks
-
--- the slot of a sound mark, and the number after it
-pub slot_fits : (n : Node) (k : ℕ) → mark_sound_at n k ≡ true → (mark_at n k).slot + 1 < 2 ^ 16
-slot_fits n k e =
-    let m = mark_at n k in
-    let h : m.slot < slot_count = ltb-true m.slot slot_count (part 0 (ltb m.slot slot_count ∷ ltb (peer_of m.movement) n.size ∷ not (eqb (peer_of m.movement) n.me) ∷ []) e) in omega arith
 
 -- the first k marks are sound and ascend, and the next one's slot must not be below `least`
 pub record Passed (n : Node) (k least : ℕ) : Type 0 where

@@ -1,17 +1,18 @@
 -- A line handed to the node again and again, one turn at a time.
-use mathlib.Core.Path.{◌≡◌, refl, sym, ap, ◌∙◌}
-use mathlib.Core.List.{List}
-use Prim.Native.Nat.{ℕ, zero, suc, ◌-◌, ◌≤◌, ◌<◌}
-use native.Mathlib.Omega.{arith}
+use Rattle.std.proofs.Common.{◌≡◌, ◌∙◌, ℕ, zero, suc, ◌+◌, ◌-◌, ◌≤◌, ◌<◌, List, refl, sym, ap, arith}
 use Rattle.state.specs.Outcomes.{Stepped}
 use Rattle.exports.specs.Steps.{once_more, again}
 
-pub more : (line : List ℕ) (left : ℕ) (s t : Stepped) → 0 < left → t ≡ once_more line s → again left line s ≡ again (left - 1) line t
-unfolding again
-more line zero s t h e = absurd (omega arith)
-more line (suc n) s t h e = ap (again n line) (sym e) ∙ ap (λ (k : ℕ). again k line t) (let z : n ≡ suc n - 1 = omega arith in z)
+module _ (line : List ℕ) where
+  one : (left : ℕ) (s t : Stepped) → t ≡ once_more line s → again (suc left) line s ≡ again left line t
+  unfolding again
+  one left s t e = ap (again left line) (sym e)
 
-pub none : (line : List ℕ) (left : ℕ) (s : Stepped) → left ≤ 0 → again left line s ≡ s
-unfolding again
-none line zero s h = refl
-none line (suc n) s h = absurd (omega arith)
+  pub more : (times turn : ℕ) (s t : Stepped) → turn < times → t ≡ once_more line s → again (times - turn) line s ≡ again (times - (turn + 1)) line t
+  more times turn s t h e =
+      ap (λ (k : ℕ). again k line s) (let n : times - turn ≡ suc (times - (turn + 1)) = omega arith in n) ∙ one (times - (turn + 1)) s t e
+
+  pub none : (left : ℕ) (s : Stepped) → left ≤ 0 → again left line s ≡ s
+  unfolding again
+  none zero s h = refl
+  none (suc n) s h = absurd (omega arith)

@@ -13,7 +13,7 @@ ghost use Rattle.exports.specs.Listings.{numbered};
 ghost use Rattle.exports.specs.Steps.{first, again, repeated};
 
 use answers::Answer;
-use frames::{Decoded, Kind, Layout};
+use frames::{Kind, Layout};
 use state::{Node, Outcome};
 
 // The slot of a key: document 01, "Keys to slots".
@@ -35,11 +35,8 @@ pub extern "C" fn ukweribaso_ranges(slots: &[u16], size: u16, list: &mut [u16]) 
 fn bitmap_of(kind: Kind, line: &[u8], bitmap: &mut [u8; 2048])
     ensures { bitmap.new ≡ by_layout (layout_of kind) (bitmap_of line.now) bitmap.old }
 {
-    let layout = frames::layout_of(kind);
-    match layout {
-        Layout::Short => {}
-        Layout::Middle => {}
-        Layout::Long => frames::bitmap(line, bitmap),
+    if let Layout::Long = frames::layout_of(kind) {
+        frames::bitmap(line, bitmap);
     }
 }
 
@@ -48,14 +45,11 @@ fn bitmap_of(kind: Kind, line: &[u8], bitmap: &mut [u8; 2048])
 pub extern "C" fn ukweribaso_decode(line: &[u8], bitmap: &mut [u8; 2048]) -> u64
     ensures { (result ≡ frame_digest (frame_of line.now)) × (bitmap.new ≡ bitmap_after (frame_of line.now) line.now bitmap.old) }
 {
-    let decoded = frames::decode(line);
-    match decoded {
-        Decoded::NotAFrame => 0,
-        Decoded::Good(frame) => {
-            let kind = frame.kind;
-            let header = frame.header;
-            bitmap_of(kind, line, bitmap);
-            digests::of_frame(kind, header)
+    match frames::decode(line) {
+        None => 0,
+        Some(frame) => {
+            bitmap_of(frame.kind, line, bitmap);
+            digests::of_frame(frame.kind, frame.header)
         }
     }
 }
@@ -68,11 +62,8 @@ fn repeat(node: Node, slots: &mut [u16], reports: &mut [u64], line: &[u8], times
         answer: Answer::Done,
         node,
     };
-    let mut left = times;
-    while left > 0 {
-        let node = outcome.node;
-        outcome = node::frame(node, slots, reports, line);
-        left -= 1;
+    for _turn in 0..times {
+        outcome = node::frame(outcome.node, slots, reports, line);
     }
     outcome
 }

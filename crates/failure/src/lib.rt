@@ -14,51 +14,35 @@ use tables::NODES;
 pub fn report_at(subject: u16, reporter: u16) -> usize
     ensures { result ≡ report_at subject reporter }
 {
-    NODES * subject as usize + reporter as usize
+    NODES * usize::from(subject) + usize::from(reporter)
 }
 
-// The stored report at a place; past the list there is none.
+// The stored report at a place; past the list there is none. None is 0 and a time is kept as one more, since C lends the list.
 fn stored_at(reports: &[u64], place: usize) -> u64
     ensures { result ≡ get_or reports.now place 0 }
 {
-    if place < reports.len() {
-        return reports[place];
-    }
-    0
+    reports.get(place).copied().unwrap_or(0)
 }
 
-fn is_recent(node: Node, stored: u64) -> bool
-    ensures { result ≡ recent node stored }
+#[tactic(auto, unfolding(crate::specs::Failure::recent))]
+fn is_recent(node: &Node, stored: u64) -> bool
+    ensures { result ≡ recent node.now stored }
 {
     if stored == 0 {
         return false;
     }
     let t = stored - 1;
-    if node.clock < t {
-        return false;
-    }
-    if ages::over_twice(node.timeout, ages::age(node.clock, t)) {
-        return false;
-    }
-    true
+    t <= node.clock && !ages::over_twice(node.timeout, ages::age(node.clock, t))
 }
 
-fn is_signaller(node: Node, voters: NodeSet, reports: &[u64], subject: u16, k: u16) -> bool
-    ensures { result ≡ signals node voters reports.now subject k }
+#[tactic(auto, unfolding(crate::specs::Failure::signals))]
+fn is_signaller(node: &Node, voters: NodeSet, reports: &[u64], subject: u16, k: u16) -> bool
+    ensures { result ≡ signals node.now voters reports.now subject k }
 {
-    if k < node.size {} else {
+    if k >= node.size || !nodesets::has(voters, k) {
         return false;
     }
-    if nodesets::has(voters, k) {} else {
-        return false;
-    }
-    if k == node.me {
-        return true;
-    }
-    if k == subject {
-        return false;
-    }
-    is_recent(node, stored_at(reports, report_at(subject, k)))
+    k == node.me || k != subject && is_recent(node, stored_at(reports, report_at(subject, k)))
 }
 
 // A set of masters with node k, if its role is a master's.
@@ -71,24 +55,20 @@ pub fn with_master(masters: NodeSet, k: u16, role: Role) -> NodeSet
     masters
 }
 
-fn gather_signallers(node: Node, voters: NodeSet, reports: &[u64], subject: u16) -> NodeSet
-    ensures { result ≡ signallers node voters reports.now subject }
+fn gather_signallers(node: &Node, voters: NodeSet, reports: &[u64], subject: u16) -> NodeSet
+    ensures { result ≡ signallers node.now voters reports.now subject }
 {
-    let end = state::listed(node.size);
     let mut set = nodesets::none();
-    let mut k: u16 = 0;
-    while k < end {
+    for k in 0..state::listed(node.size) {
         if is_signaller(node, voters, reports, subject, k) {
             set = nodesets::add(set, k);
-            k += 1;
-            continue;
         }
-        k += 1;
     }
     set
 }
 
 // The look at one node: PFAIL becomes FAIL if more than half of the voting masters signal it.
+#[tactic(auto, unfolding(crate::specs::Failure::flag_if_signalled, crate::specs::Failure::most_signal))]
 pub fn flag_if_signalled(
     node: Node,
     voters: NodeSet,
@@ -98,10 +78,9 @@ pub fn flag_if_signalled(
 ) -> Flag
     ensures { result ≡ flag_if_signalled node voters reports.now subject flag }
 {
-    if state::is_pfail(flag) {} else {
-        return flag;
-    }
-    if nodesets::majority(voters, gather_signallers(node, voters, reports, subject)) {
+    if state::is_pfail(flag)
+        && nodesets::majority(voters, gather_signallers(&node, voters, reports, subject))
+    {
         return Flag::Fail(node.clock);
     }
     flag

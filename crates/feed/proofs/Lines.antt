@@ -1,4 +1,5 @@
 -- A line as the node is shown it.
+use Rattle.std.specs.Prelude.{None}
 use mathlib.Core.Path.{◌≡◌, refl, sym, ap, ◌∙◌}
 use mathlib.Core.Bool.{Bool, true, false, cond}
 use mathlib.Core.List.{List, []}
@@ -12,7 +13,6 @@ use Rattle.state.specs.Outcomes.{Stepped}
 use Rattle.state.specs.declared.Node.{Node}
 use Rattle.hexdigits.specs.Hex.{all_digits, byte_at, digit}
 use Rattle.frames.specs.Frames.{frame_of}
-use Rattle.frames.specs.declared.Decoded.TheVariants.{NotAFrame}
 use Rattle.refusals.specs.Refusals.{refusals, frame_refusals}
 use Rattle.node.specs.Step.{on_frame}
 use Rattle.scraps.specs.Scraps.{room, Line, short, long, part_of, grown}
@@ -21,7 +21,7 @@ use Rattle.scraps.proofs.Lines.{fits, too_many}
 use Rattle.feed.specs.Feed.{on_line}
 
 -- an empty line is no frame
-pub empty_line : frame_of [] ≡ NotAFrame
+pub empty_line : frame_of [] ≡ None
 unfolding frame_of all_digits byte_at digit
 empty_line = refl
 

@@ -1,5 +1,5 @@
 -- A feed of lines that arrives in pieces: document 02, [9]. What a call takes of its piece, what it answers, and what it leaves.
-use Rattle.std.specs.Prelude.{ℕ, cond, List, [], length}
+use Rattle.std.specs.Prelude.{ℕ, cond, List, [], length, None, Option, Some}
 use Rattle.tables.specs.Checks.{checked}
 use Rattle.answers.specs.declared.Answer.TheVariants.{NotAFrame}
 use Rattle.state.specs.Outcomes.{Stepped}
@@ -9,8 +9,7 @@ use Rattle.refusals.specs.Refusals.{both_long}
 use Rattle.node.specs.Step.{turned_away, on_frame}
 use Rattle.scraps.specs.Scraps.{Line, short, long, part_of, Taken, takes}
 use Rattle.scraps.specs.declared.Kept.{Kept}
-use Rattle.feed.specs.declared.Told.{Told}
-use Rattle.feed.specs.declared.Told.TheVariants.{NoLine, Answered}
+use Rattle.answers.specs.declared.Answer.{Answer}
 use Rattle.feed.specs.declared.Fed.{Fed}
 
 -- ---- a line at its newline
@@ -34,17 +33,17 @@ with_line l s = record { node = s.node; slots = s.slots; reports = s.reports; li
 
 -- the answer if a line ended, what is left, and how many bytes of the piece were used
 pub record Called : Type 0 where
-  pub told : Told
+  pub told : Option Answer
   pub after : Station
   pub used : ℕ
 
 -- the line goes on: there is no answer, and nothing else is looked at
 abbrev pub continues : Station → Line → ℕ → Called
-continues s line used = record { told = NoLine; after = with_line line s; used = used }
+continues s line used = record { told = None; after = with_line line s; used = used }
 
 -- it has ended: it is answered, and used up whatever the answer is
 abbrev pub ends : Stepped → ℕ → Called
-ends x used = record { told = Answered x.outcome.answer; after = record { node = x.outcome.node; slots = x.slots; reports = x.reports; line = short [] }; used = used }
+ends x used = record { told = Some x.outcome.answer; after = record { node = x.outcome.node; slots = x.slots; reports = x.reports; line = short [] }; used = used }
 
 -- by what is taken of the piece
 abbrev pub after : Station → Taken → Called

@@ -8,19 +8,11 @@ ghost use Rattle.feed.specs.Feed.{on_line, station, fed_as, feeds};
 use answers::Answer;
 use scraps::{Kept, ROOM};
 use state::{Node, Outcome};
-use tables::Found;
-
-// The answer of a line that ended, if one did.
-#[derive(Clone, Copy)]
-pub enum Told {
-    NoLine,
-    Answered(Answer),
-}
 
 // What a call answers, the node and the kept part after it, and how many bytes of the piece were used.
 #[derive(Clone, Copy)]
 pub struct Fed {
-    pub told: Told,
+    pub told: Option<Answer>,
     pub node: Node,
     pub kept: Kept,
     pub used: usize,
@@ -30,10 +22,7 @@ pub struct Fed {
 fn shown(length: usize) -> usize
     ensures { result ≡ cond (ltb room length) 0 length }
 {
-    if length > ROOM {
-        return 0;
-    }
-    length
+    if length > ROOM { 0 } else { length }
 }
 
 // A line of which the last characters are lent. Where nothing was kept before them they are the line, and need no copy.
@@ -45,9 +34,8 @@ fn answer(node: Node, slots: &mut [u16], reports: &mut [u64], kept: Kept, last: 
         return node::frame(node, slots, reports, &last[..end]);
     }
     let line = scraps::keep(kept, last);
-    let bytes = line.bytes;
     let end = shown(line.length);
-    node::frame(node, slots, reports, &bytes[..end])
+    node::frame(node, slots, reports, &line.bytes[..end])
 }
 
 // Takes all bytes of the piece up to and including the first newline, or the whole piece if there is none, and answers the
@@ -55,24 +43,20 @@ fn answer(node: Node, slots: &mut [u16], reports: &mut [u64], kept: Kept, last: 
 pub fn feed(node: Node, slots: &mut [u16], reports: &mut [u64], kept: Kept, piece: &[u8]) -> Fed
     ensures { fed_as result slots.new reports.new ≡ feeds (station node slots.old reports.old kept) piece.now }
 {
-    let found = tables::first_byte(piece, b'\n');
-    match found {
-        Found::Nothing => Fed {
-            told: Told::NoLine,
+    match tables::first_byte(piece, b'\n') {
+        None => Fed {
+            told: None,
             node,
             kept: scraps::keep(kept, piece),
             used: piece.len(),
         },
-        Found::At(k) => {
+        Some(k) => {
             let used = k + 1;
             let outcome = answer(node, slots, reports, kept, &piece[..k]);
-            let answer = outcome.answer;
-            let after = outcome.node;
-            let left = scraps::none();
             Fed {
-                told: Told::Answered(answer),
-                node: after,
-                kept: left,
+                told: Some(outcome.answer),
+                node: outcome.node,
+                kept: scraps::none(),
                 used,
             }
         }

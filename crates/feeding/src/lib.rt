@@ -8,21 +8,15 @@ ghost use Rattle.cases.specs.Cases.{cases_node};
 ghost use Rattle.streams.specs.Streams.{answers_of, stream};
 ghost use Rattle.feeding.specs.Feeding.{begun, noted, digested};
 
-use feed::Told;
-
-fn wide(x: u8) -> u64
-    ensures { result ≡ x }
-{
-    x as u64
-}
+use answers::Answer;
 
 // The answers so far in one number.
-fn noted(notes: u64, told: Told) -> u64
+fn noted(notes: u64, told: Option<Answer>) -> u64
     ensures { result ≡ foldl noted notes (answers_of told) }
 {
     match told {
-        Told::NoLine => notes,
-        Told::Answered(answer) => notes % 16777216 * 131 + wide(answers::number(answer)) + 1,
+        None => notes,
+        Some(answer) => notes % 16777216 * 131 + u64::from(answers::number(answer)) + 1,
     }
 }
 
@@ -30,10 +24,7 @@ fn noted(notes: u64, told: Told) -> u64
 fn piece_size(size: usize, length: usize) -> usize
     ensures { 0 < length → 0 < result }
 {
-    if size == 0 {
-        return length;
-    }
-    size
+    if size == 0 { length } else { size }
 }
 
 // Where the piece at hand ends; once that is used up, where the next one does.
@@ -67,13 +58,13 @@ pub extern "C" fn ukweribaso_feed(
     let mut notes: u64 = 0;
     let mut at: usize = 0;
     let mut end: usize = 0;
+    // No `for`: how far a call goes depends on where the lines end.
     while at < bytes.len() {
         end = piece_end(at, end, part, bytes.len());
         let fed = feed::feed(here, slots, reports, kept, &bytes[at..end]);
         here = fed.node;
         kept = fed.kept;
-        let told = fed.told;
-        notes = noted(notes, told);
+        notes = noted(notes, fed.told);
         at += fed.used;
     }
     notes % 4294967296 + here.current % 65536 * 4294967296 + here.voted % 65536 * 281474976710656

@@ -1,4 +1,5 @@
 -- A line means one frame, and a frame has one line: `one_line`.
+use Rattle.std.specs.Prelude.{None, Option, Some}
 use mathlib.Core.Path.{◌≡◌, refl, sym, ap, subst, ◌∙◌}
 use mathlib.Core.Bool.{Bool, true, false, cond, ◌&&◌}
 use mathlib.Core.List.{List, [], ◌∷◌, ◌++◌, append-nil}
@@ -39,17 +40,13 @@ use Rattle.frames.specs.declared.Kind.{Kind}
 use Rattle.frames.specs.declared.Kind.TheVariants.{Heartbeat, Report, Fail, Request, Ack, Probe, Tick}
 use Rattle.frames.specs.declared.Layout.{Layout}
 use Rattle.frames.specs.declared.Layout.TheVariants.{Short, Middle, Long}
-use Rattle.frames.specs.declared.Listing.{Listing}
-use Rattle.frames.specs.declared.Listing.TheVariants.{Unlisted, Listed}
 use Rattle.frames.specs.declared.Frame.{Frame}
-use Rattle.frames.specs.declared.Decoded.{Decoded}
-use Rattle.frames.specs.declared.Decoded.TheVariants.{NotAFrame, Good}
 
 -- ---- the first four bytes
 
 -- those of a kind name it
 Named : List ℕ → Kind → Type 0
-Named bs q = (k : ℕ) × (x : ℕ) × (y : ℕ) × (z : ℕ) × (bs ≡ k ∷ x ∷ y ∷ z ∷ []) × (kind_of k x y z ≡ Listed q)
+Named bs q = (k : ℕ) × (x : ℕ) × (y : ℕ) × (z : ℕ) × (bs ≡ k ∷ x ∷ y ∷ z ∷ []) × (kind_of k x y z ≡ Some q)
 
 unfoldable named : (q : Kind) → Named (kind_bytes q) q
 unfolding Named
@@ -66,23 +63,23 @@ named (Probe x Pong) = (6, x, 1, 0, refl, refl)
 named Tick = (7, 0, 0, 0, refl, refl)
 
 -- a row at a time: what holds of each row's kind, and of none, holds of the one met
-abbrev Each : (Listing → Type 0) → List (Bool × Kind) → Type 0
+abbrev Each : (Option Kind → Type 0) → List (Bool × Kind) → Type 0
 Each P [] = Unit {0}
-Each P (row ∷ rest) = (row.0 ≡ true → P (Listed row.1)) × Each P rest
+Each P (row ∷ rest) = (row.0 ≡ true → P (Some row.1)) × Each P rest
 
-pick : (P : Listing → Type 0) (t : Bool) (a b : Listing) → (t ≡ true → P a) → P b → P (cond t a b)
+pick : (P : Option Kind → Type 0) (t : Bool) (a b : Option Kind) → (t ≡ true → P a) → P b → P (cond t a b)
 pick P true a b f g = f refl
 pick P false a b f g = g
 
-row_by_row : (P : Listing → Type 0) → P Unlisted → (rows : List (Bool × Kind)) → Each P rows → P (checked Listed rows Unlisted)
+row_by_row : (P : Option Kind → Type 0) → P None → (rows : List (Bool × Kind)) → Each P rows → P (checked Some rows None)
 row_by_row P h [] e = h
-row_by_row P h (row ∷ rest) e = pick P row.0 (Listed row.1) (checked Listed rest Unlisted) e.0 (row_by_row P h rest e.1)
+row_by_row P h (row ∷ rest) e = pick P row.0 (Some row.1) (checked Some rest None) e.0 (row_by_row P h rest e.1)
 
 module _ (k x y z : ℕ) where
   -- what is listed has these four bytes
-  Spelled : Listing → Type 0
-  Spelled Unlisted = Unit
-  Spelled (Listed q) = kind_bytes q ≡ k ∷ x ∷ y ∷ z ∷ []
+  Spelled : Option Kind → Type 0
+  Spelled None = Unit
+  Spelled (Some q) = kind_bytes q ≡ k ∷ x ∷ y ∷ z ∷ []
 
   -- what a row's test says
   one : (a v : ℕ) (t : Bool) → (t && eqb a v) ≡ true → (t ≡ true) × (a ≡ v)
@@ -92,7 +89,7 @@ module _ (k x y z : ℕ) where
   unfolding Spelled
   every_row = (λ e. let a = one z 0 (eqb k 1 && eqb y 0) e in let b = one y 0 (eqb k 1) a.0 in rw (a.1, b.1, eqb-true k 1 b.0), (λ e. let a = one y 1 (eqb k 1) e in rw (a.1, eqb-true k 1 a.0), (λ e. let a = one z 0 (eqb k 2) e in rw (a.1, eqb-true k 2 a.0), (λ e. let a = one z 1 (eqb k 2) e in rw (a.1, eqb-true k 2 a.0), (λ e. let a = one z 2 (eqb k 2) e in rw (a.1, eqb-true k 2 a.0), (λ e. let a = one z 0 (eqb k 3) e in rw (a.1, eqb-true k 3 a.0), (λ e. let a = one z 0 (eqb k 4 && eqb y 0) e in let b = one y 0 (eqb k 4) a.0 in rw (a.1, b.1, eqb-true k 4 b.0), (λ e. let a = one z 0 (eqb k 5) e in rw (a.1, eqb-true k 5 a.0), (λ e. let a = one z 0 (eqb k 6 && eqb y 0) e in let b = one y 0 (eqb k 6) a.0 in rw (a.1, b.1, eqb-true k 6 b.0), (λ e. let a = one z 0 (eqb k 6 && eqb y 1) e in let b = one y 1 (eqb k 6) a.0 in rw (a.1, b.1, eqb-true k 6 b.0), (λ e. let a = one z 0 (eqb k 7 && eqb x 0 && eqb y 0) e in let b = one y 0 (eqb k 7 && eqb x 0) a.0 in let d = one x 0 (eqb k 7) b.0 in rw (a.1, b.1, d.1, eqb-true k 7 d.0), tt)))))))))))
 
-  spelled : (q : Kind) → kind_of k x y z ≡ Listed q → kind_bytes q ≡ k ∷ x ∷ y ∷ z ∷ []
+  spelled : (q : Kind) → kind_of k x y z ≡ Some q → kind_bytes q ≡ k ∷ x ∷ y ∷ z ∷ []
   unfolding Spelled
   spelled q e = subst Spelled e (row_by_row Spelled tt (rows k x y z) every_row)
 
@@ -247,11 +244,11 @@ module _ (k x y z : ℕ) (h : Header) (m : List ℕ) (all : Bytes (k ∷ x ∷ y
         (long_config k x y z h.epoch h.config h.time m (all 0) (all 1) (all 2) (all 3) f.0 f.1 f.2 (f.3, f.4)),
   )
 
-read_back : (f : Frame) (m : List ℕ) → Fits f m → frame_of (encode f m) ≡ Good f
+read_back : (f : Frame) (m : List ℕ) → Fits f m → frame_of (encode f m) ≡ Some f
 unfolding frame_of encode Named
 read_back f m fits = go (named f.kind)
   where
-    go : Named (kind_bytes f.kind) f.kind → frame_of (encode f m) ≡ Good f
+    go : Named (kind_bytes f.kind) f.kind → frame_of (encode f m) ≡ Some f
     go (k, x, y, z, e, q) =
         let r = read k x y z f.header m (subst Bytes e fits.0) (layout_of f.kind) fits.1 in
         rw (e, r.0.hexadecimal, r.0.kind, r.0.first, r.0.second, r.0.third, q, eq-eqb _ _ r.0.size, r.1)
@@ -277,33 +274,33 @@ module _ (l : List ℕ) (d : all_digits l ≡ true) where
   first_bytes : Bytes (byte_at l 0 ∷ byte_at l 1 ∷ byte_at l 2 ∷ byte_at l 3 ∷ [])
   first_bytes = four (byte_at l 0) (byte_at l 1) (byte_at l 2) (byte_at l 3) [] (byte_lt l 0) (byte_lt l 1) (byte_lt l 2) (byte_lt l 3) (λ k. omega arith)
 
-  abbrev Back : Decoded → Type 0
-  Back r = (r ≡ NotAFrame) ⊎ ((f : Frame) × (r ≡ Good f) × Fits f (bitmap_of l) × (encode f (bitmap_of l) ≡ l))
+  abbrev Back : Option Frame → Type 0
+  Back r = (r ≡ None) ⊎ ((f : Frame) × (r ≡ Some f) × Fits f (bitmap_of l) × (encode f (bitmap_of l) ≡ l))
 
-  listed : (q : Kind) → kind_bytes q ≡ byte_at l 0 ∷ byte_at l 1 ∷ byte_at l 2 ∷ byte_at l 3 ∷ [] → Back (framed l (Listed q))
+  listed : (q : Kind) → kind_bytes q ≡ byte_at l 0 ∷ byte_at l 1 ∷ byte_at l 2 ∷ byte_at l 3 ∷ [] → Back (framed l (Some q))
   unfolding encode
   listed q e = go (eqb (length l) (digits_of (layout_of q))) refl
     where
       f : Frame
       f = record { header = header_of (layout_of q) l; kind = q }
 
-      go : (t : Bool) → eqb (length l) (digits_of (layout_of q)) ≡ t → Back (cond t (Good f) NotAFrame)
+      go : (t : Bool) → eqb (length l) (digits_of (layout_of q)) ≡ t → Back (cond t (Some f) None)
       go true s =
           let b = back (layout_of q) (eqb-true (length l) (digits_of (layout_of q)) s) in
           inr (f, refl, (subst Bytes (sym e) first_bytes, b.1), rw e b.0)
       go false s = inl refl
 
-  any : (r : Listing) → kind_of (byte_at l 0) (byte_at l 1) (byte_at l 2) (byte_at l 3) ≡ r → Back (framed l r)
-  any Unlisted e = inl refl
-  any (Listed q) e = listed q (spelled (byte_at l 0) (byte_at l 1) (byte_at l 2) (byte_at l 3) q e)
+  any : (r : Option Kind) → kind_of (byte_at l 0) (byte_at l 1) (byte_at l 2) (byte_at l 3) ≡ r → Back (framed l r)
+  any None e = inl refl
+  any (Some q) e = listed q (spelled (byte_at l 0) (byte_at l 1) (byte_at l 2) (byte_at l 3) q e)
 
-written_back : (line : List ℕ) → (frame_of line ≡ NotAFrame) ⊎ ((f : Frame) × (frame_of line ≡ Good f) × Fits f (bitmap_of line) × (encode f (bitmap_of line) ≡ line))
+written_back : (line : List ℕ) → (frame_of line ≡ None) ⊎ ((f : Frame) × (frame_of line ≡ Some f) × Fits f (bitmap_of line) × (encode f (bitmap_of line) ≡ line))
 unfolding frame_of
 written_back l = go (all_digits l) refl
   where
     go : (t : Bool) → all_digits l ≡ t
-        → (cond t (framed l (kind_of (byte_at l 0) (byte_at l 1) (byte_at l 2) (byte_at l 3))) NotAFrame ≡ NotAFrame)
-        ⊎ ((f : Frame) × (cond t (framed l (kind_of (byte_at l 0) (byte_at l 1) (byte_at l 2) (byte_at l 3))) NotAFrame ≡ Good f) × Fits f (bitmap_of l) × (encode f (bitmap_of l) ≡ l))
+        → (cond t (framed l (kind_of (byte_at l 0) (byte_at l 1) (byte_at l 2) (byte_at l 3))) None ≡ None)
+        ⊎ ((f : Frame) × (cond t (framed l (kind_of (byte_at l 0) (byte_at l 1) (byte_at l 2) (byte_at l 3))) None ≡ Some f) × Fits f (bitmap_of l) × (encode f (bitmap_of l) ≡ l))
     go true d = any l d (kind_of (byte_at l 0) (byte_at l 1) (byte_at l 2) (byte_at l 3)) refl
     go false d = inl refl
 

@@ -1,5 +1,5 @@
 -- Which line is which frame: document 01, "Frames (house)" and refusal 2.
-use Rattle.std.specs.Prelude.{ℕ, Bool, cond, ◌&&◌, List, [], ◌∷◌, length, eqb}
+use Rattle.std.specs.Prelude.{ℕ, Bool, cond, ◌&&◌, List, [], ◌∷◌, length, eqb, None, Option, Some}
 use Rattle.tables.specs.Checks.{checked}
 use Rattle.hexdigits.specs.Hex.{all_digits, byte_at, number_at, bytes_at}
 use Rattle.state.specs.declared.Role.TheVariants.{Master, Replica}
@@ -9,11 +9,8 @@ use Rattle.frames.specs.declared.Header.{Header}
 use Rattle.frames.specs.declared.Kind.{Kind}
 use Rattle.frames.specs.declared.Kind.TheVariants.{Heartbeat, Report, Fail, Request, Ack, Probe, Tick}
 use Rattle.frames.specs.declared.Layout.{Layout}
+use Rattle.frames.specs.declared.Frame.{Frame}
 use Rattle.frames.specs.declared.Layout.TheVariants.{Short, Middle, Long}
-use Rattle.frames.specs.declared.Listing.{Listing}
-use Rattle.frames.specs.declared.Listing.TheVariants.{Unlisted, Listed}
-use Rattle.frames.specs.declared.Decoded.{Decoded}
-use Rattle.frames.specs.declared.Decoded.TheVariants.{NotAFrame, Good}
 
 -- The table of kinds by a line's first four bytes: kind, then those with listed values, then what the kind carries.
 abbrev pub rows : ℕ → ℕ → ℕ → ℕ → List (Bool × Kind)
@@ -31,8 +28,8 @@ rows k x y z =
     ∷ (eqb k 7 && eqb x 0 && eqb y 0 && eqb z 0, Tick)
     ∷ []
 
-abbrev pub kind_of : ℕ → ℕ → ℕ → ℕ → Listing
-kind_of k x y z = checked Listed (rows k x y z) Unlisted
+abbrev pub kind_of : ℕ → ℕ → ℕ → ℕ → Option Kind
+kind_of k x y z = checked Some (rows k x y z) None
 
 -- What follows the four bytes, in numbers of eight bytes: the time; an epoch and the time; currentEpoch, configEpoch, the
 -- time, and the bitmap of 2,048 bytes.
@@ -60,11 +57,11 @@ unfoldable pub bitmap_of : List ℕ → List ℕ
 bitmap_of line = bytes_at line 28 2048
 
 -- a line of a kind has that kind's length
-abbrev pub framed : List ℕ → Listing → Decoded
-framed line Unlisted = NotAFrame
-framed line (Listed kind) =
-    cond (eqb (length line) (digits_of (layout_of kind))) (Good (record { header = header_of (layout_of kind) line; kind = kind })) NotAFrame
+abbrev pub framed : List ℕ → Option Kind → Option Frame
+framed line None = None
+framed line (Some kind) =
+    cond (eqb (length line) (digits_of (layout_of kind))) (Some (record { header = header_of (layout_of kind) line; kind = kind })) None
 
 -- refusal 2: other characters, and what no row of the table takes
-unfoldable pub frame_of : List ℕ → Decoded
-frame_of line = cond (all_digits line) (framed line (kind_of (byte_at line 0) (byte_at line 1) (byte_at line 2) (byte_at line 3))) NotAFrame
+unfoldable pub frame_of : List ℕ → Option Frame
+frame_of line = cond (all_digits line) (framed line (kind_of (byte_at line 0) (byte_at line 1) (byte_at line 2) (byte_at line 3))) None

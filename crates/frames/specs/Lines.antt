@@ -1,6 +1,6 @@
 -- The table of kinds once more, from a frame to its line: each row's bytes in order, as document 01 lists them.
 -- `OneLine` says that this and `frame_of` are inverse, so no line means two frames and nothing else is a frame.
-use Rattle.std.specs.Prelude.{◌≡◌, List, [], ◌∷◌, ◌++◌, ◌⊎◌, ℕ, ◌^◌, ◌<◌, length, get_or}
+use Rattle.std.specs.Prelude.{◌≡◌, List, [], ◌∷◌, ◌++◌, ◌⊎◌, ℕ, ◌^◌, ◌<◌, length, get_or, None, Some}
 use Rattle.hexdigits.specs.Hex.{hex, bytes_of}
 use Rattle.state.specs.declared.Role.{Role}
 use Rattle.state.specs.declared.Role.TheVariants.{Master, Replica}
@@ -15,7 +15,6 @@ use Rattle.frames.specs.declared.Kind.TheVariants.{Heartbeat, Report, Fail, Requ
 use Rattle.frames.specs.declared.Layout.{Layout}
 use Rattle.frames.specs.declared.Layout.TheVariants.{Short, Middle, Long}
 use Rattle.frames.specs.declared.Frame.{Frame}
-use Rattle.frames.specs.declared.Decoded.TheVariants.{NotAFrame, Good}
 
 abbrev pub verdict_byte : Verdict → ℕ
 verdict_byte verdict.Fine = 0
@@ -68,7 +67,7 @@ Fits f m = Bytes (kind_bytes f.kind) × RestFits (layout_of f.kind) f.header m
 
 pub record OneLine : Type 0 where
   -- a frame's line reads as that frame, and its bitmap as that bitmap
-  pub read_back : (f : Frame) (m : List ℕ) → Fits f m → frame_of (encode f m) ≡ Good f
+  pub read_back : (f : Frame) (m : List ℕ) → Fits f m → frame_of (encode f m) ≡ Some f
   pub bitmap_back : (f : Frame) (m : List ℕ) → Fits f m → layout_of f.kind ≡ Long → bitmap_of (encode f m) ≡ m
   -- a line is no frame, or it is the line of its frame and its bitmap, which fit
-  pub written_back : (line : List ℕ) → (frame_of line ≡ NotAFrame) ⊎ ((f : Frame) × (frame_of line ≡ Good f) × Fits f (bitmap_of line) × (encode f (bitmap_of line) ≡ line))
+  pub written_back : (line : List ℕ) → (frame_of line ≡ None) ⊎ ((f : Frame) × (frame_of line ≡ Some f) × Fits f (bitmap_of line) × (encode f (bitmap_of line) ≡ line))

@@ -3,7 +3,6 @@
 
 ghost use Rattle.std.specs.Prelude.{◌≡◌};
 ghost use Rattle.frames.specs.Frames.{kind_of, layout_of, digits_of, header_of, framed, frame_of, bitmap_of};
-ghost use Rattle.frames.specs.declared.Listing.TheVariants.{Listed};
 
 use state::{Echo, Role, Verdict};
 
@@ -52,13 +51,6 @@ pub struct Frame {
     pub kind: Kind,
 }
 
-// What a line is.
-#[derive(Clone, Copy)]
-pub enum Decoded {
-    NotAFrame,
-    Good(Frame),
-}
-
 // What follows a kind's first four bytes: the time; an epoch and the time; both epochs, the time and the bitmap.
 #[derive(Clone, Copy)]
 pub enum Layout {
@@ -67,167 +59,53 @@ pub enum Layout {
     Long,
 }
 
-// What the first four bytes say.
-#[derive(Clone, Copy)]
-enum Listing {
-    Unlisted,
-    Listed(Kind),
-}
-
-// A master's heartbeat has a followed byte of 0.
-fn heartbeat(sender: u8, role: u8, followed: u8) -> Listing
-    ensures { result ≡ kind_of 1 sender role followed }
-{
-    if role == 1 {
-        return Listing::Listed(Kind::Heartbeat {
-            sender,
-            role: Role::Replica(followed),
-        });
-    }
-    if role != 0 {
-        return Listing::Unlisted;
-    }
-    if followed != 0 {
-        return Listing::Unlisted;
-    }
-    Listing::Listed(Kind::Heartbeat {
-        sender,
-        role: Role::Master,
-    })
-}
-
-fn report(reporter: u8, subject: u8, said: u8) -> Listing
-    ensures { result ≡ kind_of 2 reporter subject said }
-{
-    if said == 0 {
-        return Listing::Listed(Kind::Report {
-            reporter,
-            subject,
-            verdict: Verdict::Fine,
-        });
-    }
-    if said == 1 {
-        return Listing::Listed(Kind::Report {
-            reporter,
-            subject,
-            verdict: Verdict::Pfail,
-        });
-    }
-    if said == 2 {
-        return Listing::Listed(Kind::Report {
-            reporter,
-            subject,
-            verdict: Verdict::Fail,
-        });
-    }
-    Listing::Unlisted
-}
-
-fn fail(sender: u8, subject: u8, zero: u8) -> Listing
-    ensures { result ≡ kind_of 3 sender subject zero }
-{
-    if zero != 0 {
-        return Listing::Unlisted;
-    }
-    Listing::Listed(Kind::Fail { sender, subject })
-}
-
-fn request(candidate: u8, zero: u8, last: u8) -> Listing
-    ensures { result ≡ kind_of 4 candidate zero last }
-{
-    if zero != 0 {
-        return Listing::Unlisted;
-    }
-    if last != 0 {
-        return Listing::Unlisted;
-    }
-    Listing::Listed(Kind::Request { candidate })
-}
-
-fn ack(voter: u8, candidate: u8, zero: u8) -> Listing
-    ensures { result ≡ kind_of 5 voter candidate zero }
-{
-    if zero != 0 {
-        return Listing::Unlisted;
-    }
-    Listing::Listed(Kind::Ack { voter, candidate })
-}
-
-fn probe(subject: u8, came: u8, zero: u8) -> Listing
-    ensures { result ≡ kind_of 6 subject came zero }
-{
-    if zero != 0 {
-        return Listing::Unlisted;
-    }
-    if came == 0 {
-        return Listing::Listed(Kind::Probe {
-            subject,
-            echo: Echo::Ping,
-        });
-    }
-    if came == 1 {
-        return Listing::Listed(Kind::Probe {
-            subject,
-            echo: Echo::Pong,
-        });
-    }
-    Listing::Unlisted
-}
-
-fn tick(first: u8, second: u8, third: u8) -> Listing
-    ensures { result ≡ kind_of 7 first second third }
-{
-    if first != 0 {
-        return Listing::Unlisted;
-    }
-    if second != 0 {
-        return Listing::Unlisted;
-    }
-    if third != 0 {
-        return Listing::Unlisted;
-    }
-    Listing::Listed(Kind::Tick)
-}
-
-// The row of the table that a line's first four bytes meet.
-fn row(kind: u8, x: u8, y: u8, z: u8) -> Listing
+// The row of the table that a line's first four bytes meet. A master's heartbeat has a followed byte of 0.
+fn row(kind: u8, x: u8, y: u8, z: u8) -> Option<Kind>
     ensures { result ≡ kind_of kind x y z }
 {
-    if kind == 1 {
-        return heartbeat(x, y, z);
-    }
-    if kind == 2 {
-        return report(x, y, z);
-    }
-    if kind == 3 {
-        return fail(x, y, z);
-    }
-    if kind == 4 {
-        return request(x, y, z);
-    }
-    if kind == 5 {
-        return ack(x, y, z);
-    }
-    if kind == 6 {
-        return probe(x, y, z);
-    }
-    if kind == 7 {
-        return tick(x, y, z);
-    }
-    Listing::Unlisted
+    let row = match (kind, x, y, z) {
+        (1, sender, 0, 0) => Kind::Heartbeat {
+            sender,
+            role: Role::Master,
+        },
+        (1, sender, 1, master) => Kind::Heartbeat {
+            sender,
+            role: Role::Replica(master),
+        },
+        (2, reporter, subject, said) => Kind::Report {
+            reporter,
+            subject,
+            verdict: match said {
+                0 => Verdict::Fine,
+                1 => Verdict::Pfail,
+                2 => Verdict::Fail,
+                _ => return None,
+            },
+        },
+        (3, sender, subject, 0) => Kind::Fail { sender, subject },
+        (4, candidate, 0, 0) => Kind::Request { candidate },
+        (5, voter, candidate, 0) => Kind::Ack { voter, candidate },
+        (6, subject, 0, 0) => Kind::Probe {
+            subject,
+            echo: Echo::Ping,
+        },
+        (6, subject, 1, 0) => Kind::Probe {
+            subject,
+            echo: Echo::Pong,
+        },
+        (7, 0, 0, 0) => Kind::Tick,
+        _ => return None,
+    };
+    Some(row)
 }
 
 pub fn layout_of(kind: Kind) -> Layout
     ensures { result ≡ layout_of kind }
 {
     match kind {
-        Kind::Heartbeat { .. } => Layout::Long,
-        Kind::Report { .. } => Layout::Short,
-        Kind::Fail { .. } => Layout::Short,
-        Kind::Request { .. } => Layout::Long,
+        Kind::Report { .. } | Kind::Fail { .. } | Kind::Probe { .. } | Kind::Tick => Layout::Short,
         Kind::Ack { .. } => Layout::Middle,
-        Kind::Probe { .. } => Layout::Short,
-        Kind::Tick => Layout::Short,
+        Kind::Heartbeat { .. } | Kind::Request { .. } => Layout::Long,
     }
 }
 
@@ -264,37 +142,38 @@ fn header_of(layout: Layout, line: &[u8]) -> Header
 }
 
 // The kind's length looked at, and its header read.
-fn whole(line: &[u8], kind: Kind) -> Decoded
-    ensures { result ≡ framed line.now (Listed kind) }
+fn whole(line: &[u8], kind: Kind) -> Option<Frame>
+    ensures { result ≡ framed line.now (Some kind) }
 {
     let layout = layout_of(kind);
     if line.len() != digits_of(layout) {
-        return Decoded::NotAFrame;
+        return None;
     }
-    let header = header_of(layout, line);
-    Decoded::Good(Frame { header, kind })
+    Some(Frame {
+        header: header_of(layout, line),
+        kind,
+    })
 }
 
 // The frame that a line is, without its newline.
-pub fn decode(line: &[u8]) -> Decoded
+#[tactic(auto, unfolding(crate::specs::Frames::frame_of))]
+pub fn decode(line: &[u8]) -> Option<Frame>
     ensures { result ≡ frame_of line.now }
 {
-    if hexdigits::all_digits(line) {} else {
-        return Decoded::NotAFrame;
+    if !hexdigits::all_digits(line) {
+        return None;
     }
-    let listing = row(
+    let kind = row(
         hexdigits::byte_at(line, 0),
         hexdigits::byte_at(line, 1),
         hexdigits::byte_at(line, 2),
         hexdigits::byte_at(line, 3),
-    );
-    match listing {
-        Listing::Unlisted => Decoded::NotAFrame,
-        Listing::Listed(kind) => whole(line, kind),
-    }
+    )?;
+    whole(line, kind)
 }
 
 // The bitmap of a line of kind 1 or 4.
+#[tactic(auto, unfolding(crate::specs::Frames::bitmap_of))]
 pub fn bitmap(line: &[u8], out: &mut [u8; 2048])
     ensures { out.new ≡ bitmap_of line.now }
 {

@@ -1,5 +1,5 @@
 -- A fresh node of a roster, fresh tables, and the ids of a numbered roster.
-use Rattle.std.specs.Prelude.{ℕ, List, map, replicate, length, set}
+use Rattle.std.specs.Prelude.{ℕ, List, map, replicate, length, set, None}
 use Rattle.tables.specs.Below.{in_turn}
 use Rattle.tables.specs.Sizes.{node_room, mark_room, unowned}
 use Rattle.state.specs.Node.{blank, no_mark}
@@ -8,7 +8,6 @@ use Rattle.state.specs.declared.NodeId.{NodeId}
 use Rattle.state.specs.declared.Node.{Node}
 use Rattle.state.specs.declared.Record.{Record}
 use Rattle.state.specs.declared.Role.{Role}
-use Rattle.state.specs.declared.Election.TheVariants.{Closed}
 
 -- a node of which only the role is known: no epoch, no times, no flag
 abbrev pub newcomer : Role → Record
@@ -16,7 +15,7 @@ newcomer role = with_role role blank
 
 -- clock and epochs 0, no times, flags, marks or election
 unfoldable pub fresh_node : List NodeId → List Role → ℕ → ℕ → ℕ → Node
-fresh_node ids roles size me timeout = record { ids = ids; records = map newcomer roles; marks = replicate mark_room no_mark; size = size; me = me; marked = 0; current = 0; voted = 0; clock = 0; timeout = timeout; election = Closed }
+fresh_node ids roles size me timeout = record { ids = ids; records = map newcomer roles; marks = replicate mark_room no_mark; size = size; me = me; marked = 0; current = 0; voted = 0; clock = 0; timeout = timeout; election = None }
 
 -- all unowned; none reported
 abbrev pub fresh_slots : List ℕ → List ℕ

@@ -5,7 +5,7 @@ ghost use Rattle.std.specs.Prelude.{◌≡◌};
 ghost use Rattle.tables.specs.Sizes.{node_room};
 ghost use Rattle.fresh.specs.Fresh.{id_of, ids_of, newcomer, fresh_node, fresh_slots, fresh_reports};
 
-use state::{Election, Flag, Mark, Moment, Move, Node, NodeId, Record, Role};
+use state::{Flag, Mark, Move, Node, NodeId, Record, Role};
 use tables::{MARKS, NODES};
 
 // The id of a number in a numbered roster: 19 zero bytes and the number.
@@ -22,10 +22,8 @@ pub fn ids() -> [NodeId; NODES]
     ensures { result ≡ ids_of node_room }
 {
     let mut ids = [id(0); NODES];
-    let mut k: u8 = 0;
-    while k < NODES as u8 {
-        ids[k as usize] = id(k);
-        k += 1;
+    for k in 0..NODES as u8 {
+        ids[usize::from(k)] = id(k);
     }
     ids
 }
@@ -36,9 +34,9 @@ fn newcomer(role: Role) -> Record
     Record {
         role,
         config: 0,
-        ping: Moment::Never,
+        ping: None,
         flag: Flag::Clear,
-        vote: Moment::Never,
+        vote: None,
     }
 }
 
@@ -46,23 +44,15 @@ fn newcomer(role: Role) -> Record
 pub fn node(ids: [NodeId; NODES], roles: [Role; NODES], size: u16, me: u16, timeout: u64) -> Node
     ensures { result ≡ fresh_node ids roles size me timeout }
 {
-    let first = newcomer(Role::Master);
-    let mut records = [first; NODES];
-    let mut k: usize = 0;
-    while k < NODES {
-        let role = roles[k];
-        records[k] = newcomer(role);
-        k += 1;
-    }
+    let records = roles.map(newcomer);
     let mark = Mark {
         slot: 0,
         movement: Move::Migrating(0),
     };
-    let marks = [mark; MARKS];
     Node {
         ids,
         records,
-        marks,
+        marks: [mark; MARKS],
         size,
         me,
         marked: 0,
@@ -70,7 +60,7 @@ pub fn node(ids: [NodeId; NODES], roles: [Role; NODES], size: u16, me: u16, time
         voted: 0,
         clock: 0,
         timeout,
-        election: Election::Closed,
+        election: None,
     }
 }
 
@@ -78,20 +68,12 @@ pub fn node(ids: [NodeId; NODES], roles: [Role; NODES], size: u16, me: u16, time
 pub fn slots(slots: &mut [u16])
     ensures { slots.new ≡ fresh_slots slots.old }
 {
-    let mut s: usize = 0;
-    while s < slots.len() {
-        slots[s] = tables::UNOWNED;
-        s += 1;
-    }
+    slots.fill(tables::UNOWNED);
 }
 
 // Nothing reported.
 pub fn reports(reports: &mut [u64])
     ensures { reports.new ≡ fresh_reports reports.old }
 {
-    let mut i: usize = 0;
-    while i < reports.len() {
-        reports[i] = 0;
-        i += 1;
-    }
+    reports.fill(0);
 }

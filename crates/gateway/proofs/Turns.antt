@@ -1,4 +1,5 @@
 -- What a reply makes of a lookup that asks, case by case: it ends, or asks the node that an ASK or a MOVED names.
+use Rattle.std.specs.Prelude.{None, Some}
 use Prim.Native.Nat.{ℕ, ◌+◌, ◌≤◌, ◌<◌}
 use mathlib.Core.Path.{◌≡◌, refl, sym, ap, subst}
 use mathlib.Core.Bool.{Bool, true, false, cond, not}
@@ -15,7 +16,6 @@ use Rattle.lookups.specs.declared.End.{End}
 use Rattle.lookups.specs.declared.End.TheVariants.{Served, Bad, Down, Declined, TooMany, Stale, Refused}
 use Rattle.lookups.specs.declared.Stage.{Stage}
 use Rattle.lookups.specs.declared.Stage.TheVariants.{Asking, Ended}
-use Rattle.lookups.specs.declared.Learned.TheVariants.{Nothing, Owner}
 use Rattle.lookups.specs.declared.Turn.{Turn}
 use Rattle.cache.specs.Cache.{Map}
 use Rattle.gateway.specs.Gateway.{map_checks, turn, named_slot, learn}
@@ -85,9 +85,9 @@ module _ (size s : ℕ) where
 
     pub data Comes (r : Reply) : Turn → Type 0 where
       ended : (end : End) → Why r end → Comes r (ends end)
-      sent : (peer : ℕ) → q.hops < most_hops → Comes r (record { stage = Asking (record { node = peer; asking = true; hops = q.hops + 1 }); learned = Nothing })
+      sent : (peer : ℕ) → q.hops < most_hops → Comes r (record { stage = Asking (record { node = peer; asking = true; hops = q.hops + 1 }); learned = None })
       moves : (owner epoch : ℕ) → r ≡ moved s owner epoch → owner < size → q.hops < most_hops → held ≤ epoch
-          → Comes r (record { stage = Asking (record { node = owner; asking = false; hops = q.hops + 1 }); learned = Owner owner epoch })
+          → Comes r (record { stage = Asking (record { node = owner; asking = false; hops = q.hops + 1 }); learned = Some (record { owner = owner; epoch = epoch }) })
 
     heard_comes : (r : Reply) → Comes r (heard size s held q r)
     unfolding heard
@@ -101,7 +101,7 @@ module _ (size s : ℕ) where
         ((λ e. ended Bad (bad named owner e)), ((λ e. ended TooMany tt), tt)) (λ f. not_bad (good named owner f.0) (leb-false most_hops q.hops f.1.0))
       where
         -- what is left is whether it is older
-        not_bad : Good named owner → q.hops < most_hops → Comes (moved named owner epoch) (checked ends ((is_stale held epoch, Stale) ∷ []) (record { stage = Asking (record { node = owner; asking = false; hops = q.hops + 1 }); learned = Owner owner epoch }))
+        not_bad : Good named owner → q.hops < most_hops → Comes (moved named owner epoch) (checked ends ((is_stale held epoch, Stale) ∷ []) (record { stage = Asking (record { node = owner; asking = false; hops = q.hops + 1 }); learned = Some (record { owner = owner; epoch = epoch }) }))
         not_bad g few = through (Comes (moved named owner epoch)) ends ((is_stale held epoch, Stale) ∷ []) _
             ((λ e. ended Stale (record { owner = owner; epoch = epoch; is_moved_lem = rw g.0; in_roster = g.1; few = few; below = ltb-true epoch held e })), tt)
             (λ f. moves owner epoch (rw g.0) g.1 few (ltb-false epoch held f.0))
@@ -119,7 +119,7 @@ module _ (size s : ℕ) where
     named_comes : (map : Map) (r : Reply) {t : Turn} → Comes r t → learn map (named_slot r) t.learned ≡ learn map s t.learned
     named_comes map r (ended end why) = refl
     named_comes map r (sent peer h) = refl
-    named_comes map r (moves owner epoch m i h n) = ap (λ (x : Reply). learn map (named_slot x) (Owner owner epoch)) m
+    named_comes map r (moves owner epoch m i h n) = ap (λ (x : Reply). learn map (named_slot x) (Some (record { owner = owner; epoch = epoch }))) m
 
   -- where something was learned, the reply named the key's slot
   pub named_turn : (map : Map) (wrong : Bool) (held : ℕ) (stage : Stage) (r : Reply)
@@ -138,7 +138,7 @@ module _ (size s : ℕ) where
   held_named held q (moved named owner epoch) = by (eqb named s) refl
     where
       goes : ℕ → Turn
-      goes k = sent_on size s q.hops named owner (is_stale (held k) epoch) false (Owner owner epoch)
+      goes k = sent_on size s q.hops named owner (is_stale (held k) epoch) false (Some (record { owner = owner; epoch = epoch }))
 
       by : (t : Bool) → eqb named s ≡ t → goes named ≡ goes s
       by true e = ap goes (eqb-true named s e)

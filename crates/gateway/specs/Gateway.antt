@@ -1,5 +1,5 @@
 -- The gateway's router (02, [4] and [5]): how a lookup starts, and what a reply does to it and to the cached map.
-use Rattle.std.specs.Prelude.{ℕ, Bool, false, cond, List, [], ◌∷◌, ◌++◌, eqb, ltb}
+use Rattle.std.specs.Prelude.{ℕ, Bool, false, cond, List, [], ◌∷◌, ◌++◌, eqb, ltb, Option, None, Some}
 use Rattle.tables.specs.Sizes.{node_room}
 use Rattle.tables.specs.Checks.{checked, any_of}
 use Rattle.state.specs.declared.Node.{Node}
@@ -12,8 +12,7 @@ use Rattle.lookups.specs.declared.End.TheVariants.{Refused}
 use Rattle.lookups.specs.declared.Stage.{Stage}
 use Rattle.lookups.specs.declared.Stage.TheVariants.{Asking, Ended}
 use Rattle.lookups.specs.declared.Lookup.{Lookup}
-use Rattle.lookups.specs.declared.Learned.{Learned}
-use Rattle.lookups.specs.declared.Learned.TheVariants.{Nothing, Owner}
+use Rattle.cache.specs.declared.Entry.{Entry}
 use Rattle.lookups.specs.declared.Turn.{Turn}
 
 -- the roster's size is outside 1 to 64
@@ -60,9 +59,9 @@ named_slot (ask named peer) = named
 named_slot (moved named owner epoch) = named
 
 -- what was learned goes into the entry of that one slot
-abbrev pub learn : Map → ℕ → Learned → Map
-learn map s Nothing = map
-learn map s (Owner owner epoch) = entered map s (record { owner = owner; epoch = epoch })
+abbrev pub learn : Map → ℕ → Option Entry → Map
+learn map s None = map
+learn map s (Some entry) = entered map s entry
 
 -- the turn of a lookup, on its own key's slot, with the epoch that is held of it now
 abbrev pub turn_of : Lookup → Map → ℕ → Reply → Turn

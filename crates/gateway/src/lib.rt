@@ -9,21 +9,21 @@ ghost use Rattle.lookups.specs.Keys.{slot_of};
 ghost use Rattle.cache.specs.Cache.{map_of, wrong_length, entry_at, held_epoch};
 ghost use Rattle.gateway.specs.Gateway.{no_roster, first_asked, first_stage, started, turn, named_slot, learn, taken, with_asking, asked};
 
-use lookups::{End, Key, Learned, Lookup, Question, Stage, Turn};
+use cache::Entry;
+use lookups::{End, Key, Lookup, Question, Stage, Turn};
 use routing::Redirect;
 use state::Node;
 
-// The answer to a key that a lookup has no room for, a number of ours.
+// The answer to a key that a lookup has no room for, a number of ours. Refusals are numbers here since `lookups` promises them so. The
+// map and its epochs are two lists, entry by entry, since C and callers lend them so.
 pub const KEY_TOO_LONG: u8 = 49;
 
 // The roster's size is outside 1 to 64.
+#[tactic(auto, unfolding(crate::specs::Gateway::no_roster))]
 fn no_roster(size: u16) -> bool
     ensures { result ≡ no_roster size }
 {
-    if size == 0 {
-        return true;
-    }
-    size > tables::MOST_NODES
+    size == 0 || size > tables::MOST_NODES
 }
 
 // ---- a lookup starts
@@ -32,10 +32,7 @@ fn no_roster(size: u16) -> bool
 fn first_asked(size: u16, owner: u16) -> u16
     ensures { result ≡ first_asked size owner }
 {
-    if owner < size {
-        return owner;
-    }
-    0
+    if owner < size { owner } else { 0 }
 }
 
 fn first_stage(map: &[u16], epochs: &[u64], size: u16, key: Key) -> Stage
@@ -76,21 +73,14 @@ fn named(redirect: Redirect) -> u16
     ensures { result ≡ named_slot (reply redirect) }
 {
     match redirect {
-        Redirect::WrongLength => 0,
-        Redirect::Unsound => 0,
-        Redirect::Down => 0,
-        Redirect::Serve => 0,
-        Redirect::Ask { slot, peer: _ } => slot,
-        Redirect::Moved {
-            slot,
-            owner: _,
-            epoch: _,
-        } => slot,
+        Redirect::Ask { slot, .. } | Redirect::Moved { slot, .. } => slot,
+        _ => 0,
     }
 }
 
 // What a reply does at a stage. It is held against the entry of the slot that it names: one that names another than the key's is
 // bad whatever stands there.
+#[tactic(auto, unfolding(crate::specs::Gateway::turn))]
 fn turn(map: &[u16], epochs: &[u64], size: u16, key: Key, stage: Stage, redirect: Redirect) -> Turn
     ensures { result ≡ turn (wrong_length (map_of map.now epochs.now)) size (slot_of key) (held_epoch size (entry_at (map_of map.now epochs.now) (slot_of key))) stage (reply redirect) }
 {
@@ -110,12 +100,11 @@ fn turn(map: &[u16], epochs: &[u64], size: u16, key: Key, stage: Stage, redirect
 }
 
 // What was learned goes into the slot's entry.
-fn learn(map: &mut [u16], epochs: &mut [u64], slot: u16, learned: Learned)
+fn learn(map: &mut [u16], epochs: &mut [u64], slot: u16, learned: Option<Entry>)
     ensures { map_of map.new epochs.new ≡ learn (map_of map.old epochs.old) slot learned }
 {
-    match learned {
-        Learned::Nothing => {}
-        Learned::Owner { owner, epoch } => cache::enter(map, epochs, slot, owner, epoch),
+    if let Some(entry) = learned {
+        cache::enter(map, epochs, slot, entry);
     }
 }
 
@@ -129,13 +118,9 @@ pub fn take(
 ) -> Lookup
     ensures { record { lookup = result; map = map_of map.new epochs.new } ≡ taken lookup (map_of map.old epochs.old) size (reply redirect) }
 {
-    let key = lookup.key;
-    let stage = lookup.stage;
-    let turn = turn(map, epochs, size, key, stage, redirect);
-    let next = turn.stage;
-    let learned = turn.learned;
-    learn(map, epochs, named(redirect), learned);
-    lookups::at(lookup, next)
+    let turn = turn(map, epochs, size, lookup.key, lookup.stage, redirect);
+    learn(map, epochs, named(redirect), turn.learned);
+    lookups::at(lookup, turn.stage)
 }
 
 // ---- a node is asked
@@ -144,10 +129,7 @@ pub fn take(
 fn with_asking(stage: Stage) -> bool
     ensures { result ≡ with_asking stage }
 {
-    match stage {
-        Stage::Asking(question) => question.asking,
-        Stage::Ended(_) => false,
-    }
+    matches!(stage, Stage::Asking(Question { asking: true, .. }))
 }
 
 // A lookup asks a node, which has the key or not, and takes its reply.
@@ -162,16 +144,8 @@ pub fn ask(
 ) -> Lookup
     ensures { record { lookup = result; map = map_of map.new epochs.new } ≡ asked lookup (map_of map.old epochs.old) size node slots.now present }
 {
-    let stage = lookup.stage;
-    let key = lookup.key;
-    let bytes = key.bytes;
-    let asking = with_asking(stage);
-    let redirect = routing::route(
-        node,
-        slots,
-        lookups::part(&bytes, key.length),
-        present,
-        asking,
-    );
+    let key = lookups::part(&lookup.key.bytes, lookup.key.length);
+    let asking = with_asking(lookup.stage);
+    let redirect = routing::route(node, slots, key, present, asking);
     take(lookup, map, epochs, size, redirect)
 }

@@ -1,8 +1,7 @@
 -- A heartbeat past the refusals, clock and currentEpoch already risen: document 01, "Heartbeat", its steps in 01's order.
-use Rattle.std.specs.Prelude.{ℕ, ◌+◌, Bool, cond, List, [], ◌∷◌, eqb, ltb}
+use Rattle.std.specs.Prelude.{ℕ, ◌+◌, Bool, cond, List, [], ◌∷◌, eqb, ltb, None}
 use Rattle.tables.specs.Sizes.{top}
 use Rattle.tables.specs.Checks.{all_of}
-use Rattle.tables.specs.declared.Found.TheVariants.{Nothing}
 use Rattle.answers.specs.declared.Tally.{Tally}
 use Rattle.answers.specs.declared.Answer.TheVariants.{Heard}
 use Rattle.state.specs.Node.{record_at, master_at}
@@ -26,7 +25,7 @@ with_sender sender role config n = on_record sender (heard_of role config) n
 
 -- a replica's bitmap claims nothing
 abbrev pub no_claims : Tally
-no_claims = record { bound = 0; rebound = 0; stale = Nothing }
+no_claims = record { bound = 0; rebound = 0; stale = None }
 
 -- a master's claims on the table, with the frame's own configEpoch
 abbrev pub claimed_by : ℕ → ℕ → List ℕ → Node → List ℕ → Claimed

@@ -9,7 +9,6 @@ ghost use Rattle.heartbeats.specs.Heartbeats.{heard_of, tied, heartbeat};
 
 use answers::{Answer, Tally};
 use state::{Node, Outcome, Record, Role};
-use tables::{Found, NODES};
 
 // The sender's record after its frame: the role, and a master's configEpoch.
 fn heard_of(known: Record, role: Role, config: u64) -> Record
@@ -28,27 +27,17 @@ fn ties(node: Node, mine: Record, sender: u8, config: u64) -> bool
     requires sender_value { (record_at node sender).role ≡ Master }
     ensures { result ≡ all_of (tied sender config node) }
 {
-    if node.me >= node.size {
-        return false;
-    }
-    let role = mine.role;
-    if state::is_master(role) {} else {
-        return false;
-    }
-    let number = sender as u16;
-    if number >= node.size {
-        return false;
-    }
-    if config != mine.config {
-        return false;
-    }
-    if node.me >= number {
-        return false;
-    }
-    node.current < tables::TOP
+    let number = u16::from(sender);
+    node.me < node.size
+        && state::is_master(mine.role)
+        && number < node.size
+        && config == mine.config
+        && node.me < number
+        && node.current < tables::TOP
 }
 
 // A master's frame.
+#[tactic(auto, using(records::proofs::Known::place_inside))]
 fn of_master(node: Node, slots: &mut [u16], bitmap: &[u8], sender: u8, config: u64) -> Outcome
     ensures { record { outcome = result; slots = slots.new } ≡ heartbeat node slots.old bitmap.now sender Master config }
 {
@@ -60,15 +49,15 @@ fn of_master(node: Node, slots: &mut [u16], bitmap: &[u8], sender: u8, config: u
     let there = next.records[from];
     let heard = heard_of(there, Role::Master, config);
     next.records[from] = records::kept_of(number, heard, there);
-    let listed = records::listed(next.size);
-    let mut configs = [0u64; NODES];
-    let mut k: usize = 0;
-    while k < listed {
-        let other = next.records[k];
-        configs[k] = other.config;
-        k += 1;
-    }
-    let tally = ownership::claim(slots, bitmap, &configs, next.size, sender as u16, config);
+    let configs = records::configs(&next.records, next.size);
+    let tally = ownership::claim(
+        slots,
+        bitmap,
+        &configs,
+        next.size,
+        u16::from(sender),
+        config,
+    );
     let mine = next.records[at];
     let own = records::known_of(me, mine);
     if ties(next, own, sender, config) {
@@ -84,6 +73,7 @@ fn of_master(node: Node, slots: &mut [u16], bitmap: &[u8], sender: u8, config: u
 }
 
 // A heartbeat past the refusals: the sender's role and configEpoch, its claims on the slot table, and last the tie.
+#[tactic(auto, using(records::proofs::Known::place_inside))]
 pub fn heartbeat(
     node: Node,
     slots: &mut [u16],
@@ -106,7 +96,7 @@ pub fn heartbeat(
             let none = Tally {
                 bound: 0,
                 rebound: 0,
-                stale: Found::Nothing,
+                stale: None,
             };
             Outcome {
                 answer: Answer::Heard(none),

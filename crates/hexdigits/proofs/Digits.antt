@@ -9,7 +9,7 @@ use lib.ListN.{length, drop, get_or, drop_of_length-le}
 use lib.Seq.{drop-cons}
 use mathlib.Core.Logic.{◌⊎◌, inl, inr, ⊎_elim}
 use lib.Dec.{ltb}
-use borrow.Author.Tests.{ltb-true, ltb-false, le-leb, lt-leb, lt-ltb, le-ltb}
+use borrow.Author.Tests.{ltb-true, ltb-false, le-leb, lt-leb}
 use Rattle.hexdigits.specs.Hex.{is_digit, digit, all_digits}
 
 pub lt_or_ge : (a b : ℕ) → (a < b) ⊎ (b ≤ a)
@@ -53,9 +53,6 @@ above_digits c h =
     let b : 57 < c = omega arith in
     let k : 97 ≤ c = omega arith in
     (simp (le-leb 48 c a, lt-leb c 57 b, le-leb 97 c k, lt-leb c 102 h), simp (le-leb 48 c a, lt-leb c 57 b, le-leb 97 c k, lt-leb c 102 h))
-
-pub last_test : (c : ℕ) → 97 ≤ c → ltb c 103 ≡ is_digit c
-last_test c h = ⊎_elim (λ (g : c < 103). lt-ltb c 103 g ∙ sym (letters c h g).0) (λ (g : 103 ≤ c). le-ltb c 103 g ∙ sym (above_digits c g).0) (lt_or_ge c 103)
 
 -- what a character is: none of the digits, 0 to 9, or a to f
 pub data Sort (c : ℕ) : Type 0 where

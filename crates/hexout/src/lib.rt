@@ -5,27 +5,26 @@ ghost use Rattle.std.specs.Prelude.{◌≡◌, [], ◌∷◌, ◌+◌, ◌<◌};
 ghost use Rattle.hexdigits.specs.Hex.{character, hex, bytes_of, over};
 
 // The digit of a value.
+#[tactic(auto, unfolding(hexdigits::specs::Hex::character))]
 fn digit_of(value: u8) -> u8
     requires { value < 16 }
     ensures { result ≡ character value }
 {
     if value < 10 {
-        return value + 48;
+        b'0' + value
+    } else {
+        b'a' - 10 + value
     }
-    value + 87
 }
 
 // One character k places after place i, if there is room.
+#[tactic(auto, using(hexdigits::proofs::Over::over_past, hexdigits::proofs::Over::over_one))]
 fn put(out: &mut [u8], i: usize, k: usize, c: u8)
     ensures { out.new ≡ over out.old (i + k) (c ∷ []) }
 {
-    if out.len() <= i {
-        return;
+    if i < out.len() && k < out.len() - i {
+        out[i + k] = c;
     }
-    if out.len() - i <= k {
-        return;
-    }
-    out[i + k] = c;
 }
 
 // A byte as two digits k places after place i.
@@ -49,10 +48,8 @@ pub fn write_number(out: &mut [u8], i: usize, number: u64)
     ensures { out.new ≡ over out.old i (hex (bytes_of 8 number)) }
 {
     let mut rest = number;
-    let mut k: usize = 8;
-    while 0 < k {
-        k -= 1;
+    for k in (0..8).rev() {
         write_after(out, i, 2 * k, (rest % 256) as u8);
-        rest = rest / 256;
+        rest /= 256;
     }
 }

@@ -19,7 +19,8 @@ use Rattle.lookups.specs.declared.Stage.{Stage}
 use Rattle.lookups.specs.declared.Stage.TheVariants.{Asking, Ended}
 use Rattle.lookups.specs.declared.Lookup.{Lookup}
 use Rattle.lookups.specs.declared.Turn.{Turn}
-use Rattle.cache.specs.Cache.{Map, Entry, entry_at, held_epoch, wrong_length}
+use Rattle.cache.specs.Cache.{Map, entry_at, held_epoch, wrong_length}
+use Rattle.cache.specs.declared.Entry.{Entry}
 use Rattle.gateway.specs.Gateway.{no_roster, map_checks, turn, learn, Taken, taken}
 use Rattle.gateway.proofs.Turns.{through, Older, turn_comes, why_ended}
 use Rattle.isolation.specs.Runs.{Event, Happening, starts, hears, Progress, unstarted, reached, leaves, after}
@@ -99,7 +100,7 @@ module _ (size s : ℕ) where
       by : (b : Bool) → eqb s (slot_of l.key) ≡ b → NoLower size s map t.map
       by true q =
           let e = eqb-true s (slot_of l.key) q in
-          let is : entry_at t.map s ≡ record { owner = f.owner; epoch = f.epoch } = rw (f.owners, f.epochs, e) (learned_here map (slot_of l.key) f.owner f.epoch right (key_slot_below (key_bytes l.key))) in
+          let is : entry_at t.map s ≡ record { owner = f.owner; epoch = f.epoch } = rw (f.owners, f.epochs, e) (learned_here map (slot_of l.key) (record { owner = f.owner; epoch = f.epoch }) right (key_slot_below (key_bytes l.key))) in
           let held : held_epoch size (entry_at map s) ≤ f.epoch = rw e f.not_older in
           record { stands = rw (ap (λ (x : Entry). x.owner) is) f.in_roster; epoch = rw (ap (λ (x : Entry). x.epoch) is) (rw (lt-ltb (entry_at map s).owner size h) at held) }
       by false q =

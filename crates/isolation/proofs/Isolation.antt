@@ -17,9 +17,9 @@ use Rattle.lookups.specs.declared.Stage.{Stage}
 use Rattle.lookups.specs.declared.Stage.TheVariants.{Asking, Ended}
 use Rattle.lookups.specs.declared.Lookup.{Lookup}
 use Rattle.lookups.specs.declared.Turn.{Turn}
-use Rattle.lookups.specs.declared.Learned.{Learned}
-use Rattle.lookups.specs.declared.Learned.TheVariants.{Nothing, Owner}
-use Rattle.cache.specs.Cache.{Map, Entry, entry_at, held_epoch, wrong_length}
+use Rattle.std.specs.Prelude.{Option, None, Some}
+use Rattle.cache.specs.declared.Entry.{Entry}
+use Rattle.cache.specs.Cache.{Map, entry_at, held_epoch, wrong_length}
 use Rattle.gateway.specs.Gateway.{first_stage, turn, turn_of, learn, started, taken}
 use Rattle.isolation.specs.Runs.{Event, Happening, starts, hears, Progress, unstarted, reached, Gateway, becomes, leaves, step, after, answers}
 use Rattle.isolation.specs.Isolation.{held_against, given, own, goes, comes_to, alone, DependsOnlyOn, Matches, Apart, events_of, SameAnswers, just, OneLookup}
@@ -69,18 +69,18 @@ depends_only_on size map right i run = all_comes size map i right run
 -- ---- one event, over two maps
 
 -- what was learned of a slot stands in its entry
-pub learned_here : (map : Map) (k owner epoch : ℕ) → wrong_length map ≡ false → k < slot_count → entry_at (learn map k (Owner owner epoch)) k ≡ record { owner = owner; epoch = epoch }
-learned_here map k owner epoch right h = let l = right_length map right in
-    λ i. record { owner = get_or-set_same map.owners k owner 0 (rw l.0 h) i; epoch = get_or-set_same map.epochs k epoch 0 (rw l.1 h) i }
+pub learned_here : (map : Map) (k : ℕ) (entry : Entry) → wrong_length map ≡ false → k < slot_count → entry_at (learn map k (Some entry)) k ≡ entry
+learned_here map k entry right h = let l = right_length map right in
+    λ i. record { owner = get_or-set_same map.owners k entry.owner 0 (rw l.0 h) i; epoch = get_or-set_same map.epochs k entry.epoch 0 (rw l.1 h) i }
 
 module _ (a b : Map) (right_a : wrong_length a ≡ false) (right_b : wrong_length b ≡ false) where
-  learn_alike : (k s : ℕ) (w : Learned) → k < slot_count → entry_at a s ≡ entry_at b s → entry_at (learn a k w) s ≡ entry_at (learn b k w) s
-  learn_alike k s Nothing h e = e
-  learn_alike k s (Owner owner epoch) h e = by (eqb s k) refl
+  learn_alike : (k s : ℕ) (w : Option Entry) → k < slot_count → entry_at a s ≡ entry_at b s → entry_at (learn a k w) s ≡ entry_at (learn b k w) s
+  learn_alike k s None h e = e
+  learn_alike k s (Some entry) h e = by (eqb s k) refl
     where
-      by : (t : Bool) → eqb s k ≡ t → entry_at (learn a k (Owner owner epoch)) s ≡ entry_at (learn b k (Owner owner epoch)) s
-      by true q = rw (eqb-true s k q) (learned_here a k owner epoch right_a h ∙ sym (learned_here b k owner epoch right_b h))
-      by false q = learn_others a k s (Owner owner epoch) (eqb-false s k q) ∙ (e ∙ sym (learn_others b k s (Owner owner epoch) (eqb-false s k q)))
+      by : (t : Bool) → eqb s k ≡ t → entry_at (learn a k (Some entry)) s ≡ entry_at (learn b k (Some entry)) s
+      by true q = rw (eqb-true s k q) (learned_here a k entry right_a h ∙ sym (learned_here b k entry right_b h))
+      by false q = learn_others a k s (Some entry) (eqb-false s k q) ∙ (e ∙ sym (learn_others b k s (Some entry) (eqb-false s k q)))
 
   module _ (size : ℕ) (slots these : ℕ → Bool) (agree : (s : ℕ) → slots s ≡ true → entry_at a s ≡ entry_at b s) where
     -- a lookup on one of the slots has the same entry in both, and comes to the same by a reply

@@ -19,8 +19,8 @@ use Rattle.lookups.specs.declared.End.TheVariants.{Served, Bad}
 use Rattle.lookups.specs.declared.Stage.{Stage}
 use Rattle.lookups.specs.declared.Stage.TheVariants.{Asking, Ended}
 use Rattle.lookups.specs.declared.Lookup.{Lookup}
-use Rattle.lookups.specs.declared.Learned.{Learned}
-use Rattle.lookups.specs.declared.Learned.TheVariants.{Nothing, Owner}
+use Rattle.std.specs.Prelude.{Option, None, Some}
+use Rattle.cache.specs.declared.Entry.{Entry}
 use Rattle.lookups.specs.declared.Turn.{Turn}
 use Rattle.cache.specs.Cache.{Map, entry_at, held_epoch, wrong_length}
 use Rattle.gateway.specs.Gateway.{turn, turn_of, learn, taken, asked}
@@ -29,21 +29,21 @@ use Rattle.gateway.proofs.Turns.{Names, Why, Comes, ended, sent, moves, turn_com
 
 -- ---- the map
 
-pub learn_owners : (map : Map) (s : ℕ) (w : Learned) → length (learn map s w).owners ≡ length map.owners
-learn_owners map s Nothing = refl
-learn_owners map s (Owner owner epoch) = simp length-set
+pub learn_owners : (map : Map) (s : ℕ) (w : Option Entry) → length (learn map s w).owners ≡ length map.owners
+learn_owners map s None = refl
+learn_owners map s (Some entry) = simp length-set
 
-pub learn_epochs : (map : Map) (s : ℕ) (w : Learned) → length (learn map s w).epochs ≡ length map.epochs
-learn_epochs map s Nothing = refl
-learn_epochs map s (Owner owner epoch) = simp length-set
+pub learn_epochs : (map : Map) (s : ℕ) (w : Option Entry) → length (learn map s w).epochs ≡ length map.epochs
+learn_epochs map s None = refl
+learn_epochs map s (Some entry) = simp length-set
 
-pub learn_length : (map : Map) (s : ℕ) (w : Learned) → wrong_length (learn map s w) ≡ wrong_length map
+pub learn_length : (map : Map) (s : ℕ) (w : Option Entry) → wrong_length (learn map s w) ≡ wrong_length map
 unfolding wrong_length
 learn_length map s w = rw (learn_owners map s w, learn_epochs map s w)
 
-pub learn_others : (map : Map) (s k : ℕ) (w : Learned) → (k ≡ s → ⊥) → entry_at (learn map s w) k ≡ entry_at map k
-learn_others map s k Nothing d = refl
-learn_others map s k (Owner owner epoch) d = λ i. record { owner = get_or-set_other map.owners s k owner 0 d i; epoch = get_or-set_other map.epochs s k epoch 0 d i }
+pub learn_others : (map : Map) (s k : ℕ) (w : Option Entry) → (k ≡ s → ⊥) → entry_at (learn map s w) k ≡ entry_at map k
+learn_others map s k None d = refl
+learn_others map s k (Some entry) d = λ i. record { owner = get_or-set_other map.owners s k entry.owner 0 d i; epoch = get_or-set_other map.epochs s k entry.epoch 0 d i }
 
 -- ---- one reply
 

@@ -13,7 +13,9 @@ use answers::Answer;
 use frames::{Header, Kind};
 use state::{Node, Outcome, Role};
 
-// Kind 1: the bitmap is read into an array, and lent.
+// Kind 1: the bitmap is read into an array, and lent. Kind 4 has its own such function, since one that returned the array would
+// copy 2 KB and one that lent it to a closure would be longer than both.
+#[tactic(auto, using(frames::proofs::Claims::bitmap_long))]
 fn heartbeat(
     node: Node,
     slots: &mut [u16],
@@ -30,6 +32,7 @@ fn heartbeat(
 }
 
 // Kind 4.
+#[tactic(auto, using(frames::proofs::Claims::bitmap_long))]
 fn request(
     node: Node,
     slots: &[u16],
@@ -55,6 +58,7 @@ fn done(node: Node) -> Outcome
 }
 
 // The table of kinds.
+#[tactic(auto, unfolding(crate::specs::Kinds::on_kind))]
 pub fn by_kind(
     node: Node,
     slots: &mut [u16],

@@ -1,3 +1,4 @@
 pub mod Moves
 pub mod Rooms
 pub mod Texts
+pub mod Writers

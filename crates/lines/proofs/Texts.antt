@@ -5,9 +5,8 @@ use mathlib.Core.List.{List, [], ◌∷◌, ◌++◌}
 use Prim.Native.Nat.{ℕ, zero, suc, ◌+◌, ◌-◌, ◌/◌, ◌^◌, ◌≤◌, ◌<◌}
 use native.Mathlib.Nat.{pow-suc, one-le-pow, pow-le-pow_right}
 use native.Mathlib.Omega.{arith}
-use native.Mathlib.Numerals.{add-one}
-use lib.ListN.{length, take, drop, get_or, set, drop_of_length-le}
-use lib.Seq.{drop-cons, set_out}
+use lib.ListN.{length, take, set}
+use lib.Seq.{set_out}
 use lib.Dec.{ltb}
 use borrow.Author.Tests.{lt-ltb, le-ltb, ltb-true, ltb-false}
 use Rattle.io.specs.Digits.{last_digits, IsDigitCount}
@@ -19,14 +18,6 @@ unfolding puts
 puts_append t [] b = refl
 puts_append t (x ∷ a) b = puts_append (put t x) a b
 
--- two texts that follow each other
-pub then : (t : Text) {u v : Text} (a b : List ℕ) → u ≡ puts t a → v ≡ puts u b → v ≡ puts t (a ++ b)
-then t {u} {v} a b e f = f ∙ ap (λ (x : Text). puts x b) e ∙ sym (puts_append t a b)
-
--- a number that equals another has its spelling
-pub spelt_as : (t : Text) {u : Text} {k n : ℕ} → k ≡ n → u ≡ puts t (decimal k) → u ≡ puts t (decimal n)
-spelt_as t {u} {k} {n} e f = f ∙ ap (λ (j : ℕ). puts t (decimal j)) e
-
 -- a byte behind the text, in a buffer that has room and in a full one
 module _ (bytes : List ℕ) (at byte : ℕ) where
   pub fits : at < length bytes → record { bytes = set bytes at byte; end = at + 1 } ≡ puts (record { bytes = bytes; end = at }) (byte ∷ [])
@@ -36,15 +27,6 @@ module _ (bytes : List ℕ) (at byte : ℕ) where
   pub full : length bytes ≤ at → record { bytes = bytes; end = at } ≡ puts (record { bytes = bytes; end = at }) (byte ∷ [])
   unfolding puts
   full h = rw (le-ltb _ _ h, set_out bytes at byte h)
-
--- the bytes from place i on
-module _ (t : Text) (bytes : List ℕ) (i : ℕ) where
-  pub one_more : i < length bytes → puts t (drop i bytes) ≡ puts (puts t (get_or bytes i 0 ∷ [])) (drop (i + 1) bytes)
-  one_more h = rw (drop-cons bytes i 0 h, ← add-one i) (puts_append t (get_or bytes i 0 ∷ []) (drop (i + 1) bytes))
-
-  pub no_more : length bytes ≤ i → puts t (drop i bytes) ≡ t
-  unfolding puts
-  no_more h = rw (drop_of_length-le bytes h)
 
 -- the fewest digits that hold a number are as many as `width` counts
 tens : (k n : ℕ) → n < 10 ^ suc k → n / 10 < 10 ^ k

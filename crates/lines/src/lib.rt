@@ -3,122 +3,96 @@
 
 ghost use Rattle.std.specs.Prelude.{◌≡◌, false, [], ◌∷◌};
 ghost use Rattle.lines.specs.Lines.{line_end, unfinished, Kept};
-ghost use Rattle.lines.specs.Texts.{Text, puts, decimal, drained};
+ghost use Rattle.lines.specs.Texts.{decimal, drained};
+ghost use Rattle.lines.specs.Writers.{extended};
 
 use std::env::{Env, FillError};
 use std::fmt::InlineText;
 use std::io::Error;
-use tables::Found;
-
-// Of a line that has not ended yet: how many of its bytes stand at the buffer's front, and whether it is too long, so
-// that its beginning was let go.
-#[derive(Clone, Copy)]
-pub struct Rest {
-    pub kept: usize,
-    pub lost: bool,
-}
 
 // Where the next newline stands, from a place on and before an end.
-pub fn line_end(buf: &[u8], from: usize, end: usize) -> Found
+pub fn line_end(buf: &[u8], from: usize, end: usize) -> Option<usize>
     ensures { result ≡ line_end buf.now from end }
 {
-    if end > buf.len() {
-        return Found::Nothing;
-    }
-    if from > end {
-        return Found::Nothing;
-    }
-    let found = tables::first_byte(&buf[from..end], b'\n');
-    match found {
-        Found::Nothing => Found::Nothing,
-        Found::At(k) => Found::At(from + k),
-    }
+    let k = tables::first_byte(buf.get(from..end)?, b'\n')?;
+    Some(from + k)
 }
 
-// Moves what stands between two places to the buffer's front, and says how much that is.
-fn shift(buf: &mut [u8], from: usize, end: usize) -> usize
-    ensures { record { rest = record { kept = result; lost = false }; buf = buf.new } ≡ unfinished buf.old from end false }
-{
-    if end > buf.len() {
-        return 0;
-    }
-    let mut n: usize = 0;
-    let mut i = from;
-    while i < end {
-        buf[n] = buf[i];
-        n += 1;
-        i += 1;
-    }
-    n
-}
-
-// What is kept of the line that starts at `from`: nothing of one that is too long.
-pub fn unfinished(buf: &mut [u8], from: usize, end: usize, lost: bool) -> Rest
+// Moves what is kept of the line that starts at `from` to the buffer's front, and says how many bytes that is: none of a
+// line that ends past the buffer, and no number for one that is too long, so that its beginning was let go.
+pub fn unfinished(buf: &mut [u8], from: usize, end: usize, lost: bool) -> Option<usize>
     ensures { record { rest = result; buf = buf.new } ≡ unfinished buf.old from end lost }
 {
     if lost {
-        return Rest {
-            kept: 0,
-            lost: true,
-        };
+        return None;
     }
-    Rest {
-        kept: shift(buf, from, end),
-        lost: false,
+    if from > end || end > buf.len() {
+        return Some(0);
     }
+    buf.copy_within(from..end, 0);
+    Some(end - from)
 }
 
-// Adds a byte behind the text's first `at` bytes, and says how long the text is then; a full buffer stays as it is.
-pub fn put(out: &mut [u8], at: usize, byte: u8) -> usize
-    ensures { record { bytes = out.new; end = result } ≡ puts (record { bytes = out.old; end = at }) (byte ∷ []) }
-{
-    if at < out.len() {
-        out[at] = byte;
-        return at + 1;
-    }
-    at
+// A text at the front of a lent buffer: what is written goes behind its first `end` bytes.
+#[derive(Drop)]
+pub struct Writer<'a> {
+    pub bytes: &'a mut [u8],
+    pub end: usize,
 }
 
-// Adds a text.
-pub fn put_text(out: &mut [u8], at: usize, text: &[u8]) -> usize
-    ensures { record { bytes = out.new; end = result } ≡ puts (record { bytes = out.old; end = at }) text.now }
-{
-    let mut end = at;
-    let mut i: usize = 0;
-    while i < text.len() {
-        end = put(out, end, text[i]);
-        i += 1;
+impl<'a> Writer<'a> {
+    // Adds a byte; a full buffer stays as it is.
+    pub fn put(&mut self, byte: u8)
+        ensures { self.new ≡ extended self.old (byte ∷ []) }
+    {
+        if self.end < self.bytes.len() {
+            self.bytes[self.end] = byte;
+            self.end += 1;
+        }
     }
-    end
-}
 
-// Adds a number in decimal.
-pub fn put_number(out: &mut [u8], at: usize, number: u64) -> usize
-    ensures { record { bytes = out.new; end = result } ≡ puts (record { bytes = out.old; end = at }) (decimal number) }
-{
-    let mut digits = [0u8; 20];
-    let count = io::decimal(number, &mut digits);
-    put_text(out, at, &digits[..count])
-}
-
-// Writes the text to standard output, and says how much of it waits then: nothing. A write that fails goes unnoticed.
-pub fn flush(rt: &impl Print, out: &[u8], at: usize) -> usize
-    ensures { result ≡ 0 }
-{
-    if at <= out.len() {
-        let _ = rt.write_all(&out[..at]);
+    // Adds a text.
+    pub fn put_text(&mut self, text: &[u8])
+        ensures { self.new ≡ extended self.old text.now }
+    {
+        for byte in text {
+            self.put(*byte);
+        }
     }
-    0
-}
 
-// Writes the text if it has come to a length, and says how much of it waits then.
-pub fn drained(rt: &impl Print, out: &[u8], at: usize, most: usize) -> usize
-    ensures { result ≡ drained most at }
-{
-    if at < most {
-        return at;
+    // Adds a number in decimal.
+    pub fn put_number(&mut self, number: u64)
+        ensures { self.new ≡ extended self.old (decimal number) }
+    {
+        let mut digits = [0u8; 20];
+        let count = io::decimal(number, &mut digits);
+        self.put_text(&digits[..count]);
     }
-    flush(rt, out, at)
+
+    // Writes the text to standard output. A write that fails goes unnoticed.
+    fn print(&self, rt: &impl Print) {
+        if self.end <= self.bytes.len() {
+            let _ = rt.write_all(&self.bytes[..self.end]);
+        }
+    }
+
+    // Writes the text to standard output, and begins a new one.
+    pub fn flush(&mut self, rt: &impl Print)
+        ensures { self.new ≡ record self.old { end = 0 } }
+    {
+        self.print(rt);
+        self.end = 0;
+    }
+
+    // Writes the text if it has come to a length.
+    pub fn drain(&mut self, rt: &impl Print, most: usize)
+        ensures { self.new ≡ record self.old { end = drained most self.old.end } }
+    {
+        if self.end < most {
+            return;
+        }
+        self.flush(rt);
+    }
 }
 
 // An error's text without the number that std puts behind it.

@@ -35,13 +35,12 @@ fn count(slots: &[u16], size: u16) -> usize
     requires { length slots.now ≡ slot_count }
     ensures { result ≡ length (listing size slots.now) }
 {
+    let last = slots.len() - 1;
     let mut n: u16 = 0;
-    let mut s: usize = 0;
-    while s + 1 < slots.len() {
+    for s in 0..last {
         n += ending(slots[s], slots[s + 1], size);
-        s += 1;
     }
-    (n + owned(slots[s], size)) as usize
+    (n + owned(slots[last], size)) as usize
 }
 
 // Where the entries that are this owner's end, from a slot on.
@@ -49,14 +48,12 @@ fn stretch_end(slots: &[u16], from: usize, owner: u16) -> usize
     requires { from ≤ length slots.now }
     ensures { result ≡ from + alike owner (drop from slots.now) }
 {
-    let mut i = from;
-    while i < slots.len() {
+    for i in from..slots.len() {
         if slots[i] != owner {
             return i;
         }
-        i += 1;
     }
-    i
+    slots.len()
 }
 
 // Writes a range's three numbers.
@@ -69,7 +66,7 @@ fn put(list: &mut [u16], at: usize, first: usize, last: usize, owner: u16)
     list[at + 2] = owner;
 }
 
-// Writes the ranges, stretch by stretch.
+// Writes the ranges, stretch by stretch: a turn goes to where its stretch ends, and counts no places.
 fn write(slots: &[u16], size: u16, list: &mut [u16])
     requires { (length slots.now ≡ slot_count) × (3 * length (listing size slots.now) ≤ length list.old) }
     ensures { list.new ≡ laid (listing size slots.now) list.old }
@@ -82,8 +79,6 @@ fn write(slots: &[u16], size: u16, list: &mut [u16])
         if owner < size {
             put(list, at, s, end - 1, owner);
             at += 3;
-            s = end;
-            continue;
         }
         s = end;
     }

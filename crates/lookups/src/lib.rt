@@ -7,6 +7,7 @@ ghost use Rattle.routing.specs.Replies.{reply};
 ghost use Rattle.lookups.specs.Keys.{key_room, front_of, key_bytes, slot_of};
 ghost use Rattle.lookups.specs.Lookups.{turns, ends, at, sent_on, heard};
 
+use cache::Entry;
 use routing::Redirect;
 
 // The longest key that a lookup carries.
@@ -15,14 +16,16 @@ pub const ROOM: usize = 512;
 // The redirections that are followed; one more ends the lookup.
 pub const HOPS: u8 = 4;
 
-// A key by value: the first `length` of the bytes. A greater length than ROOM says that it is too long.
+// A key by value: the first `length` of the bytes. A greater length than ROOM says that it is too long. An array and a length,
+// since memory is fixed and a lookup is a value.
 #[derive(Clone, Copy)]
 pub struct Key {
     pub bytes: [u8; ROOM],
     pub length: usize,
 }
 
-// Which node is asked next, whether with ASKING, and the redirections so far.
+// Which node is asked next, whether with ASKING, and the redirections so far. The flag goes with the question, and says of no
+// other field whether it counts.
 #[derive(Clone, Copy)]
 pub struct Question {
     pub node: u16,
@@ -39,17 +42,17 @@ pub enum End {
     Bad,
     // Nobody owns the slot.
     Down,
-    // The node asked refused, with that number.
+    // The node asked refused, with that number. A number, since `heard` and what is proved of it speak of any refusal.
     Declined(u8),
     // A fifth redirection.
     TooMany,
     // A MOVED was older than the cached entry.
     Stale,
-    // The gateway refused, with that number.
+    // The gateway refused, with that number. A number, since a lookup that the caller hands back may hold any.
     Refused(u8),
 }
 
-// How a lookup stands.
+// How a lookup stands. Not a Result: a lookup that was served has ended too, and that is no error.
 #[derive(Clone, Copy)]
 pub enum Stage {
     Asking(Question),
@@ -64,19 +67,11 @@ pub struct Lookup {
     pub stage: Stage,
 }
 
-// What a reply says of who owns the key's slot.
-#[derive(Clone, Copy)]
-pub enum Learned {
-    Nothing,
-    // And how new that is: the owner's configEpoch.
-    Owner { owner: u16, epoch: u64 },
-}
-
-// What a reply does: the lookup's next stage, and what is learned for the map.
+// What a reply does: the lookup's next stage, and the entry that is learned of the key's slot, if one is.
 #[derive(Clone, Copy)]
 pub struct Turn {
     pub stage: Stage,
-    pub learned: Learned,
+    pub learned: Option<Entry>,
 }
 
 // ---- keys
@@ -85,10 +80,7 @@ pub struct Turn {
 pub fn part(text: &[u8], length: usize) -> &[u8]
     ensures { result.now ≡ front_of length text.now }
 {
-    if length > text.len() {
-        return text;
-    }
-    &text[..length]
+    text.get(..length).unwrap_or(text)
 }
 
 // The key that a text is: its bytes, as far as there is room, and its whole length.
@@ -97,11 +89,7 @@ pub fn key_of(text: &[u8]) -> Key
 {
     let front = part(text, ROOM);
     let mut bytes = [0u8; ROOM];
-    let mut i: usize = 0;
-    while i < front.len() {
-        bytes[i] = front[i];
-        i += 1;
-    }
+    bytes[..front.len()].copy_from_slice(front);
     Key {
         bytes,
         length: text.len(),
@@ -112,8 +100,7 @@ pub fn key_of(text: &[u8]) -> Key
 pub fn slot(key: Key) -> u16
     ensures { result ≡ slot_of key }
 {
-    let bytes = key.bytes;
-    slots::key_slot(part(&bytes, key.length))
+    slots::key_slot(part(&key.bytes, key.length))
 }
 
 // ---- a lookup
@@ -124,7 +111,7 @@ pub fn turns(stage: Stage) -> Turn
 {
     Turn {
         stage,
-        learned: Learned::Nothing,
+        learned: None,
     }
 }
 
@@ -139,12 +126,7 @@ pub fn ends(end: End) -> Turn
 pub fn at(lookup: Lookup, stage: Stage) -> Lookup
     ensures { result ≡ at lookup stage }
 {
-    let key = lookup.key;
-    Lookup {
-        household: lookup.household,
-        key,
-        stage,
-    }
+    Lookup { stage, ..lookup }
 }
 
 // A redirection: bad, then a fifth, then stale, else followed. The slot is computed here, where it is needed.
@@ -156,15 +138,11 @@ fn sent_on(
     node: u16,
     stale: bool,
     asking: bool,
-    learned: Learned,
+    learned: Option<Entry>,
 ) -> Turn
     ensures { result ≡ sent_on size (slot_of key) hops named node stale asking learned }
 {
-    let slot = slot(key);
-    if named != slot {
-        return ends(End::Bad);
-    }
-    if node >= size {
+    if named != slot(key) || node >= size {
         return ends(End::Bad);
     }
     if hops >= HOPS {
@@ -184,6 +162,7 @@ fn sent_on(
 }
 
 // What the reply to a question does to a lookup of that key, whose slot's cached entry has the epoch `held`.
+#[tactic(auto, unfolding(crate::specs::Lookups::heard))]
 pub fn heard(size: u16, key: Key, held: u64, question: Question, redirect: Redirect) -> Turn
     ensures { result ≡ heard size (slot_of key) held question (reply redirect) }
 {
@@ -193,29 +172,10 @@ pub fn heard(size: u16, key: Key, held: u64, question: Question, redirect: Redir
         Redirect::Unsound => ends(End::Declined(7)),
         Redirect::Down => ends(End::Down),
         Redirect::Serve => ends(End::Served(question.node)),
-        Redirect::Ask { slot: named, peer } => sent_on(
-            size,
-            key,
-            hops,
-            named,
-            peer,
-            false,
-            true,
-            Learned::Nothing,
-        ),
-        Redirect::Moved {
-            slot: named,
-            owner,
-            epoch,
-        } => sent_on(
-            size,
-            key,
-            hops,
-            named,
-            owner,
-            epoch < held,
-            false,
-            Learned::Owner { owner, epoch },
-        ),
+        Redirect::Ask { slot, peer } => sent_on(size, key, hops, slot, peer, false, true, None),
+        Redirect::Moved { slot, owner, epoch } => {
+            let learned = Some(Entry { owner, epoch });
+            sent_on(size, key, hops, slot, owner, epoch < held, false, learned)
+        }
     }
 }

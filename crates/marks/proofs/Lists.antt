@@ -1,4 +1,5 @@
 -- Lists of marks: in order, passing a test, with one slot's taken out or one mark put in; and what is found in them then.
+use Rattle.std.specs.Prelude.{None, Some}
 use mathlib.Core.Path.{◌≡◌, refl, sym, subst, ◌∙◌}
 use mathlib.Core.Bool.{Bool, true, false, cond, not}
 use mathlib.Core.List.{List, [], ◌∷◌}
@@ -11,7 +12,6 @@ use borrow.Author.Tests.{eq-eqb, ne_eqb, eqb-true, eqb-false, ltb-true, ltb-fals
 use Rattle.state.specs.Node.{no_mark}
 use Rattle.state.specs.declared.Mark.{Mark}
 use Rattle.state.specs.declared.Move.{Move}
-use Rattle.marks.specs.declared.Marking.TheVariants.{Unmarked, Moving}
 use Rattle.marks.specs.Marks.{marking_of, is_unmarked, others, insert}
 
 -- ---- in order, and passing a test
@@ -97,7 +97,7 @@ unfolding others marking_of
 others_fewer s [] h = let z : ◌≡◌ {A = ℕ} 0 1 = cc in absurd (omega arith)
 others_fewer s (x ∷ l) h = by (eqb x.slot s) h (others_few s l) (others_fewer s l)
   where
-    by : (t : Bool) → is_unmarked (cond t (Moving x.movement) (marking_of s l)) ≡ false → length (others s l) ≤ length l → (is_unmarked (marking_of s l) ≡ false → length (others s l) < length l) → length (cond t (others s l) (x ∷ others s l)) < suc (length l)
+    by : (t : Bool) → is_unmarked (cond t (Some x.movement) (marking_of s l)) ≡ false → length (others s l) ≤ length l → (is_unmarked (marking_of s l) ≡ false → length (others s l) < length l) → length (cond t (others s l) (x ∷ others s l)) < suc (length l)
     by true e r f = omega (arith, r)
     by false e r f = omega (arith, f e)
 
@@ -127,7 +127,7 @@ insert_all m p (x ∷ l) h a = by (ltb m.slot x.slot) (insert_all m p l h a.1)
 -- ---- what is found
 
 -- none of a slot whose marks were taken out, and of another slot what was there
-pub taken_out : (s : ℕ) (l : List Mark) → All (another s) l → marking_of s l ≡ Unmarked
+pub taken_out : (s : ℕ) (l : List Mark) → All (another s) l → marking_of s l ≡ None
 unfolding marking_of
 taken_out s [] a = refl
 taken_out s (x ∷ l) a = rw (not-true (eqb x.slot s) a.0) (taken_out s l a.1)
@@ -137,17 +137,17 @@ unfolding marking_of others
 left_in s t [] d = refl
 left_in s t (x ∷ l) d = by (eqb x.slot s) refl (left_in s t l d)
   where
-    by : (b : Bool) → b ≡ eqb x.slot s → marking_of t (others s l) ≡ marking_of t l → marking_of t (cond b (others s l) (x ∷ others s l)) ≡ cond (eqb x.slot t) (Moving x.movement) (marking_of t l)
+    by : (b : Bool) → b ≡ eqb x.slot s → marking_of t (others s l) ≡ marking_of t l → marking_of t (cond b (others s l) (x ∷ others s l)) ≡ cond (eqb x.slot t) (Some x.movement) (marking_of t l)
     by true e r = rw (ne_eqb x.slot t (λ q. d (sym q ∙ eqb-true x.slot s (sym e)))) r
     by false e r = rw r
 
 -- the mark that was put in, where no other of its slot is, and of another slot what was there
-pub put_in : (m : Mark) (l : List Mark) → All (another m.slot) l → marking_of m.slot (insert m l) ≡ Moving m.movement
+pub put_in : (m : Mark) (l : List Mark) → All (another m.slot) l → marking_of m.slot (insert m l) ≡ Some m.movement
 unfolding marking_of insert
 put_in m [] a = rw (eq-eqb m.slot m.slot refl)
 put_in m (x ∷ l) a = by (ltb m.slot x.slot) (put_in m l a.1)
   where
-    by : (b : Bool) → marking_of m.slot (insert m l) ≡ Moving m.movement → marking_of m.slot (cond b (m ∷ x ∷ l) (x ∷ insert m l)) ≡ Moving m.movement
+    by : (b : Bool) → marking_of m.slot (insert m l) ≡ Some m.movement → marking_of m.slot (cond b (m ∷ x ∷ l) (x ∷ insert m l)) ≡ Some m.movement
     by true r = rw (eq-eqb m.slot m.slot refl)
     by false r = rw (not-true (eqb x.slot m.slot) a.0) r
 
@@ -156,16 +156,16 @@ unfolding marking_of insert
 passed_by m t [] d = rw (ne_eqb m.slot t (λ q. d (sym q)))
 passed_by m t (x ∷ l) d = by (ltb m.slot x.slot) (passed_by m t l d)
   where
-    by : (b : Bool) → marking_of t (insert m l) ≡ marking_of t l → marking_of t (cond b (m ∷ x ∷ l) (x ∷ insert m l)) ≡ cond (eqb x.slot t) (Moving x.movement) (marking_of t l)
+    by : (b : Bool) → marking_of t (insert m l) ≡ marking_of t l → marking_of t (cond b (m ∷ x ∷ l) (x ∷ insert m l)) ≡ cond (eqb x.slot t) (Some x.movement) (marking_of t l)
     by true r = rw (ne_eqb m.slot t (λ q. d (sym q)))
     by false r = rw r
 
 -- what holds of the movement of each mark that passes holds of the movement that is found
-pub found_holds : (R : Move → Type 0) (p : Mark → Bool) → ((x : Mark) → p x ≡ true → R x.movement) → (s : ℕ) (l : List Mark) (m : Move) → All p l → marking_of s l ≡ Moving m → R m
+pub found_holds : (R : Move → Type 0) (p : Mark → Bool) → ((x : Mark) → p x ≡ true → R x.movement) → (s : ℕ) (l : List Mark) (m : Move) → All p l → marking_of s l ≡ Some m → R m
 unfolding marking_of
 found_holds R p f s [] m a e = let z : ◌≡◌ {A = ℕ} 0 1 = cc in absurd (omega arith)
 found_holds R p f s (x ∷ l) m a e = by (eqb x.slot s) e (found_holds R p f s l m a.1)
   where
-    by : (b : Bool) → cond b (Moving x.movement) (marking_of s l) ≡ Moving m → (marking_of s l ≡ Moving m → R m) → R m
+    by : (b : Bool) → cond b (Some x.movement) (marking_of s l) ≡ Some m → (marking_of s l ≡ Some m → R m) → R m
     by true q r = let g : x.movement ≡ m = cc in subst R g (f x a.0)
     by false q r = r q

@@ -1,46 +1,43 @@
 -- The laws of a list of marks as the loops over the array meet them.
+use Rattle.std.specs.Prelude.{Some}
 use mathlib.Core.Path.{◌≡◌, refl, sym, ap, ◌∙◌}
 use mathlib.Core.Bool.{Bool, true, false, cond}
 use mathlib.Core.List.{List, [], ◌∷◌, ◌++◌, append-nil}
-use Prim.Native.Nat.{ℕ, zero, suc, ◌+◌, min, ◌≤◌, ◌<◌}
+use Prim.Native.Nat.{ℕ, zero, suc, ◌+◌, ◌-◌, min, ◌≤◌, ◌<◌}
 use native.Mathlib.Numerals.{add-one}
 use native.Mathlib.Omega.{arith}
-use lib.ListN.{length, take, drop, get_or, set, drop_of_length-le, take-append-drop, length-take}
-use lib.Seq.{drop-cons, take-suc, set_at, append_snoc, get_or-take, length-take-le, take_at, take-suc-set, drop-set-lt, drop-drop, drop-append-add, take-take}
+use lib.ListN.{length, take, drop, get_or, set}
+use lib.Seq.{drop-cons, take-suc, set_at, append_snoc, length-take-le, take_at, drop-drop, drop-append-add, take-take, take_all, paste}
+use Rattle.std.proofs.lemmas.List.{append_assoc, drop-take}
+use native.Mathlib.Decide.{dec_le}
 use lib.Dec.{eqb, ltb}
 use borrow.Author.Tests.{lt-ltb, le-ltb, eq-eqb, ne_eqb}
 use Rattle.state.specs.declared.Node.{Node}
 use Rattle.state.specs.declared.Mark.{Mark}
 use Rattle.state.specs.Node.{no_mark}
 use Rattle.state.specs.Changes.{with_marks}
-use Rattle.marks.specs.declared.Marking.TheVariants.{Moving}
 use Rattle.marks.specs.Marks.{marks_of, remarked, others, insert, place_of, marking_of}
 
--- the first c places of an array, from place i on
-module _ (M : List Mark) (c i : ℕ) (h : i < c) (k : i < length M) where
-  pub front : drop i (take c M) ≡ get_or M i no_mark ∷ drop (i + 1) (take c M)
-  front =
-      let l : i < length (take c M) = rw (length-take c M) (omega arith) in
-      rw (add-one i, drop-cons (take c M) i no_mark l, get_or-take c M i no_mark h)
+-- a list from place i on
+module _ (L : List Mark) (i : ℕ) (h : i < length L) where
+  front : drop i L ≡ get_or L i no_mark ∷ drop (i + 1) L
+  front = rw (add-one i, drop-cons L i no_mark h)
 
-  pub found : (s : ℕ) → (get_or M i no_mark).slot ≡ s → marking_of s (drop i (take c M)) ≡ Moving (get_or M i no_mark).movement
+  pub found : (s : ℕ) → (get_or L i no_mark).slot ≡ s → marking_of s (drop i L) ≡ Some (get_or L i no_mark).movement
   unfolding marking_of
   found s e = rw (front, eq-eqb _ _ e)
 
-  pub missed : (s : ℕ) → ((get_or M i no_mark).slot ≡ s → ⊥) → marking_of s (drop i (take c M)) ≡ marking_of s (drop (i + 1) (take c M))
+  pub missed : (s : ℕ) → ((get_or L i no_mark).slot ≡ s → ⊥) → marking_of s (drop i L) ≡ marking_of s (drop (i + 1) L)
   unfolding marking_of
   missed s e = rw (front, ne_eqb _ _ e)
 
-  pub here : (s : ℕ) → s < (get_or M i no_mark).slot → place_of s (drop i (take c M)) ≡ 0
+  pub here : (s : ℕ) → s < (get_or L i no_mark).slot → place_of s (drop i L) ≡ 0
   unfolding place_of
   here s e = rw (front, lt-ltb _ _ e)
 
-  pub further : (s : ℕ) → (get_or M i no_mark).slot ≤ s → place_of s (drop i (take c M)) ≡ suc (place_of s (drop (i + 1) (take c M)))
+  pub further : (s : ℕ) → (get_or L i no_mark).slot ≤ s → place_of s (drop i L) ≡ suc (place_of s (drop (i + 1) L))
   unfolding place_of
   further s e = rw (front, le-ltb _ _ e)
-
-pub past : (M : List Mark) (c i : ℕ) → min c (length M) ≤ i → drop i (take c M) ≡ []
-past M c i h = let l : length (take c M) ≤ i = rw (length-take c M) h in drop_of_length-le (take c M) l
 
 -- the marks of other slots, one place more
 others_snoc : (s : ℕ) (l : List Mark) (x : Mark) → others s (l ++ x ∷ []) ≡ others s l ++ cond (eqb x.slot s) [] (x ∷ [])
@@ -83,32 +80,28 @@ length_insert m (x ∷ l) = by (ltb m.slot x.slot) (length_insert m l)
     by true e = omega arith
     by false e = omega (arith, e)
 
--- a mark that goes in at p, and the marks from p on moved up one by one: below i + 1 all is done
-module _ (M : List Mark) (c : ℕ) (k : c < length M) where
-  pub started : (m : Mark) (p : ℕ) → p ≡ place_of m.slot (take c M) → p ≤ c → take (p + 1) (set M p m) ++ drop p (take c M) ≡ insert m (take c M)
-  started m p e h =
-      let l : p < length M = omega arith in
-      rw (split m (take c M), ← e, add-one p, take-suc-set M p m l, append_snoc, take-take p c M h)
+-- so many of a list's first, or all of them where there are fewer
+pub front_all : (M : List Mark) (c k : ℕ) → k ≡ min c (length M) → take k M ≡ take c M
+front_all M c k e = by (dec_le c (length M))
+  where
+    by : Dec (c ≤ length M) → take k M ≡ take c M
+    by (yes l) = let q : k ≡ c = omega arith in rw q
+    by (no l) = take_all k M (omega arith) ∙ sym (take_all c M (omega arith))
 
-  pub moved : (out : List Mark) (i : ℕ) → i < c → length out ≡ length M
-      → take (i + 1 + 1) (set out (i + 1) (get_or M i no_mark)) ++ drop (i + 1) (take c M) ≡ take (i + 1) out ++ drop i (take c M)
-  moved out i h l =
-      let g : i + 1 < length out = omega arith in let d : i < length M = omega arith in
-      rw (front M c i h d, add-one (i + 1), take-suc-set out (i + 1) (get_or M i no_mark) g, append_snoc)
-
-  pub still : (out : List Mark) (i : ℕ) (x : Mark) → drop (i + 1) out ≡ drop (i + 1) M → drop (i + 1 + 1) (set out (i + 1) x) ≡ drop (i + 1 + 1) M
-  still out i x e =
-      let g : i + 1 < i + 1 + 1 = omega arith in
-      rw (drop-set-lt (i + 1 + 1) out (i + 1) x g) (sym (drop-drop 1 (i + 1) out) ∙ ap (drop 1) e ∙ drop-drop 1 (i + 1) M)
-
-  -- all moved up: the array is the new list, and after it as before
-  pub ended : (out I : List Mark) → length out ≡ length M → drop (c + 1) out ≡ drop (c + 1) M → take (c + 1) out ++ drop c (take c M) ≡ I
-      → (out ≡ I ++ drop (length I) M) × (c + 1 ≡ length I)
-  ended out I l d e =
-      let z : drop c (take c M) ≡ [] = past M c c (omega arith) in
-      let f : I ≡ take (c + 1) out = sym e ∙ rw (z, append-nil) in
-      let g : length I ≡ c + 1 = ap length f ∙ length-take-le (c + 1) out (omega arith) in
-      (rw (g, f, ← d) (sym (take-append-drop (c + 1) out)), sym g)
+-- a mark goes in at p where the marks from p on have moved up by one
+pub moved_up : (M : List Mark) (c p : ℕ) (m : Mark) → c < length M → p ≡ place_of m.slot (take c M) → p ≤ c
+    → set (paste M (p + 1) (drop p M) (c - p)) p m ≡ insert m (take c M) ++ drop (length (insert m (take c M))) M
+moved_up M c p m h e l =
+    let g : p < length M = omega arith in
+    let k : p + (c - p) ≡ c = omega arith in
+    let n : length (insert m (take c M)) ≡ p + 1 + (c - p) = rw (length_insert m (take c M), length-take-le c M (omega arith)) (omega arith) in
+    let d : drop p (take c M) ≡ take (c - p) (drop p M) = rw k at (drop-take p (c - p) M) in
+    let t : insert m (take c M) ≡ take p M ++ m ∷ take (c - p) (drop p M) = rw (split m (take c M), ← e, take-take p c M l, d) in
+    let x = get_or M p no_mark in
+    let A = take (c - p) (drop p M) in
+    let D = drop (p + 1 + (c - p)) M in
+    let front : take (p + 1) M ≡ take p M ++ x ∷ [] = rw (add-one p, take-suc M p no_mark g) in
+    rw (n, t, front) (ap (λ (xs : List Mark). set xs p m) (append_assoc (take p M ++ x ∷ []) A D ∙ append_snoc (take p M) x (A ++ D)) ∙ set_at (take p M) x (A ++ D) m p (length-take-le p M (omega arith)) ∙ sym (append_assoc (take p M) (m ∷ A) D))
 
 -- marks listed anew, and one more then
 pub again : (n : Node) (a : List Mark) (m : Mark) → remarked (remarked n a) (insert m (marks_of (remarked n a))) ≡ remarked n (insert m a)

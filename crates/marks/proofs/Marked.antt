@@ -1,4 +1,5 @@
 -- What setting and clearing leave: the mark, or none, is found at its slot, at every other slot what was there, and the rest is kept.
+use Rattle.std.specs.Prelude.{None, Some}
 use mathlib.Core.Path.{◌≡◌, refl, ap, ◌∙◌}
 use mathlib.Core.List.{List}
 use Prim.Native.Nat.{ℕ, ◌<◌}
@@ -14,7 +15,6 @@ use Rattle.state.specs.declared.Node.{Node}
 use Rattle.state.specs.declared.Mark.{Mark}
 use Rattle.state.specs.declared.Move.{Move}
 use Rattle.state.specs.declared.Outcome.{Outcome}
-use Rattle.marks.specs.declared.Marking.TheVariants.{Unmarked, Moving}
 use Rattle.marks.specs.Marks.{marks_of, marking_of, marking_at, remarked, others, insert}
 use Rattle.marks.specs.MarkChanges.{set_mark, set_checks, marking, clear_mark, clear_checks, unmarking}
 use Rattle.marks.specs.Marked.{Setting, Clearing}
@@ -32,7 +32,7 @@ module _ (n : Node) (s : ℕ) where
 
   -- ---- setting
 
-  set_found : (slots : List ℕ) (move : Move) → (set_mark n slots s move).answer ≡ Done → marking_at (set_mark n slots s move).node s ≡ Moving move
+  set_found : (slots : List ℕ) (move : Move) → (set_mark n slots s move).answer ≡ Done → marking_at (set_mark n slots s move).node s ≡ Some move
   set_found slots move e =
       let m : Mark = record { slot = s; movement = move } in let r = others s (marks_of n) in
       ap (λ (o : Outcome). marking_at o.node s) (set_done n slots s move e) ∙ ap (marking_of s) (anew n (insert m r)) ∙ put_in m r (others_free s (marks_of n))
@@ -46,7 +46,7 @@ module _ (n : Node) (s : ℕ) where
 
   -- ---- clearing
 
-  clear_found : (clear_mark n s).answer ≡ Done → marking_at (clear_mark n s).node s ≡ Unmarked
+  clear_found : (clear_mark n s).answer ≡ Done → marking_at (clear_mark n s).node s ≡ None
   clear_found e =
       let r = others s (marks_of n) in
       ap (λ (o : Outcome). marking_at o.node s) (clear_done n s e) ∙ ap (marking_of s) (anew n r) ∙ taken_out s r (others_free s (marks_of n))

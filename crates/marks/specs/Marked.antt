@@ -1,11 +1,10 @@
 -- What setting and clearing a move mark leave (01, "Redirections"), for every node, table, slot and move.
-use Rattle.std.specs.Prelude.{ℕ, ◌<◌, ◌≡◌, true, List}
+use Rattle.std.specs.Prelude.{ℕ, ◌<◌, ◌≡◌, true, List, None, Some}
 use Rattle.answers.specs.declared.Answer.TheVariants.{Done}
 use Rattle.state.specs.declared.Node.{Node}
 use Rattle.state.specs.declared.Move.{Move}
 use Rattle.state.specs.declared.Outcome.{Outcome}
 use Rattle.soundness.specs.Sound.{sound}
-use Rattle.marks.specs.declared.Marking.TheVariants.{Unmarked, Moving}
 use Rattle.marks.specs.Marks.{marking_at, ButMarks}
 use Rattle.marks.specs.MarkChanges.{set_mark, clear_mark}
 
@@ -21,12 +20,12 @@ pub record OnlyItsMark (n : Node) (slot : ℕ) (o : Outcome) : Type 0 where
 
 pub record Setting (n : Node) (slots : List ℕ) (slot : ℕ) (move : Move) : Type 0 where
   -- the mark is found at its slot, also where it replaces one
-  pub found : (set_mark n slots slot move).answer ≡ Done → marking_at (set_mark n slots slot move).node slot ≡ Moving move
+  pub found : (set_mark n slots slot move).answer ≡ Done → marking_at (set_mark n slots slot move).node slot ≡ Some move
   pub keeps : OnlyItsMark n slot (set_mark n slots slot move)
 
 pub record Clearing (n : Node) (slot : ℕ) : Type 0 where
   -- no mark is found at the slot
-  pub gone : (clear_mark n slot).answer ≡ Done → marking_at (clear_mark n slot).node slot ≡ Unmarked
+  pub gone : (clear_mark n slot).answer ≡ Done → marking_at (clear_mark n slot).node slot ≡ None
   -- cleared room is used again: there are fewer marks
   pub room : (clear_mark n slot).answer ≡ Done → (clear_mark n slot).node.marked < n.marked
   pub keeps : OnlyItsMark n slot (clear_mark n slot)

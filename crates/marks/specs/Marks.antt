@@ -1,26 +1,25 @@
 -- The move marks as a list: reading them, the changes that setting and clearing make, and whose a slot is (01, "Redirections").
-use Rattle.std.specs.Prelude.{ℕ, zero, suc, ◌≡◌, Bool, true, false, cond, List, [], ◌∷◌, ◌++◌, length, take, drop, get_or, eqb, ltb}
+use Rattle.std.specs.Prelude.{ℕ, zero, suc, ◌≡◌, Bool, true, false, cond, List, [], ◌∷◌, ◌++◌, length, take, drop, get_or, eqb, ltb, None, Option, Some}
 use Rattle.state.specs.Changes.{with_marks}
 use Rattle.state.specs.declared.Node.{Node}
+use Rattle.state.specs.declared.Move.{Move}
 use Rattle.state.specs.declared.Mark.{Mark}
-use Rattle.marks.specs.declared.Marking.{Marking}
-use Rattle.marks.specs.declared.Marking.TheVariants.{Unmarked, Moving}
 
 -- the marks that are part of the state
 abbrev pub marks_of : Node → List Mark
 marks_of n = take n.marked n.marks
 
 -- how a slot is marked
-unfoldable pub marking_of : ℕ → List Mark → Marking
-marking_of s [] = Unmarked
-marking_of s (m ∷ ms) = cond (eqb m.slot s) (Moving m.movement) (marking_of s ms)
+unfoldable pub marking_of : ℕ → List Mark → Option Move
+marking_of s [] = None
+marking_of s (m ∷ ms) = cond (eqb m.slot s) (Some m.movement) (marking_of s ms)
 
-abbrev pub marking_at : Node → ℕ → Marking
+abbrev pub marking_at : Node → ℕ → Option Move
 marking_at n s = marking_of s (marks_of n)
 
-abbrev pub is_unmarked : Marking → Bool
-is_unmarked Unmarked = true
-is_unmarked (Moving m) = false
+abbrev pub is_unmarked : Option Move → Bool
+is_unmarked None = true
+is_unmarked (Some m) = false
 
 -- the marks of other slots
 unfoldable pub others : ℕ → List Mark → List Mark

@@ -5,83 +5,63 @@ ghost use Rattle.std.specs.Prelude.{◌≡◌, ◌≤◌, ◌<◌, length};
 ghost use Rattle.tables.specs.Sizes.{slot_count, mark_room};
 ghost use Rattle.tables.specs.Checks.{checked};
 ghost use Rattle.answers.specs.declared.Answer.TheVariants.{Done};
+ghost use Rattle.answers.specs.Refusing.{cleared};
 ghost use Rattle.state.specs.Outcomes.{answered};
 ghost use Rattle.marks.specs.Marks.{marks_of, marking_at, others, insert, place_of, remarked};
-ghost use Rattle.marks.specs.MarkChanges.{wrong_side, mark_checks, marking, set_mark, unmark_checks, unmarking, clear_mark};
+ghost use Rattle.marks.specs.MarkChanges.{wrong_side, mark_checks, marking, set_mark, clear_checks, clear_mark};
 
 use answers::{Answer, Check};
 use state::{Mark, Move, Node, Outcome};
-use tables::MARKS;
 
-// How a slot is marked.
-#[derive(Clone, Copy)]
-pub enum Marking {
-    Unmarked,
-    Moving(Move),
+// ---- the marks
+
+// Those that are part of the state.
+fn marks_of(node: &Node) -> &[Mark]
+    ensures { (result.now ≡ marks_of node.now) × (length result.now ≤ length node.now.marks) }
+{
+    let marks = &node.marks[..];
+    &marks[..usize::from(node.marked).min(marks.len())]
 }
 
-// ---- the marks; each function takes the array out of the node, since a node that is indexed is copied whole
-
 // The mark on a slot.
-pub fn find(node: Node, slot: u16) -> Marking
+pub fn find(node: Node, slot: u16) -> Option<Move>
     ensures { result ≡ marking_at node slot }
 {
-    let marks = node.marks;
-    let marked = node.marked as usize;
-    let mut i: usize = 0;
-    while i < marked {
-        if i >= MARKS {
-            return Marking::Unmarked;
+    let marks = marks_of(&node);
+    for mark in marks {
+        if mark.slot == slot {
+            return Some(mark.movement);
         }
-        let found = marks[i];
-        if found.slot == slot {
-            let movement = found.movement;
-            return Marking::Moving(movement);
-        }
-        i += 1;
     }
-    Marking::Unmarked
+    None
 }
 
 // The marks of other slots alone.
 fn without(node: Node, slot: u16) -> Node
-    requires { node.marked ≤ mark_room }
     ensures { result ≡ remarked node (others slot (marks_of node)) }
 {
-    let marks = node.marks;
-    let marked = node.marked as usize;
-    let mut kept = marks;
+    let marks = marks_of(&node);
+    let mut kept = node.marks;
     let mut j: usize = 0;
-    let mut i: usize = 0;
-    while i < marked {
-        let mark = marks[i];
-        if mark.slot == slot {
-            i += 1;
-            continue;
+    for mark in marks {
+        if mark.slot != slot {
+            kept[j] = *mark;
+            j += 1;
         }
-        kept[j] = mark;
-        j += 1;
-        i += 1;
     }
     changes::with_marks(node, kept, j as u16)
 }
 
 // Before which mark a slot's mark stands.
-fn place(node: Node, slot: u16) -> usize
-    requires { node.marked ≤ mark_room }
-    ensures { (result ≡ place_of slot (marks_of node)) × (result ≤ node.marked) }
+fn place(marks: &[Mark], slot: u16) -> usize
+    ensures { (result ≡ place_of slot marks.now) × (result ≤ length marks.now) }
 {
-    let marks = node.marks;
-    let marked = node.marked as usize;
-    let mut i: usize = 0;
-    while i < marked {
-        let mark = marks[i];
+    for (i, mark) in marks.iter().enumerate() {
         if slot < mark.slot {
             return i;
         }
-        i += 1;
     }
-    i
+    marks.len()
 }
 
 // One mark more, in its place.
@@ -89,17 +69,10 @@ fn with_mark(node: Node, mark: Mark) -> Node
     requires { node.marked < mark_room }
     ensures { result ≡ remarked node (insert mark (marks_of node)) }
 {
-    let old = node.marks;
-    let marked = node.marked as usize;
-    let at = place(node, mark.slot);
-    let mut marks = old;
+    let at = place(marks_of(&node), mark.slot);
+    let mut marks = node.marks;
+    marks.copy_within(at..usize::from(node.marked), at + 1);
     marks[at] = mark;
-    let mut i = at;
-    while i < marked {
-        let moved = old[i];
-        marks[i + 1] = moved;
-        i += 1;
-    }
     changes::with_marks(node, marks, node.marked + 1)
 }
 
@@ -115,49 +88,46 @@ fn wrong_side(owned: bool, movement: Move) -> bool
     }
 }
 
-// The checks of a mark, and the mark.
-fn mark_slot(node: Node, slots: &[u16], slot: u16, movement: Move) -> Outcome
-    requires { (length slots.now ≡ slot_count) × (node.marked ≤ mark_room) }
-    ensures { result ≡ checked (answered node) (mark_checks node slots.now slot movement) (answered (marking slot movement node) Done) }
+// The checks of a mark, beside so many marks of other slots.
+fn mark_check(node: &Node, slots: &[u16], slot: u16, movement: Move, beside: u16) -> Check
+    requires { (length slots.now ≡ slot_count) × (beside ≡ length (others slot (marks_of node.now))) }
+    ensures { result ≡ checked Err (mark_checks node.now slots.now slot movement) cleared }
 {
     if slot >= tables::SLOTS {
-        return Outcome {
-            answer: Answer::NoSuchSlot,
-            node,
-        };
+        return Err(Answer::NoSuchSlot);
     }
-    let peer = state::peer_of(movement) as u16;
+    let peer = u16::from(state::peer_of(movement));
     if peer >= node.size {
-        return Outcome {
-            answer: Answer::UnknownNode,
-            node,
-        };
+        return Err(Answer::UnknownNode);
     }
     if peer == node.me {
-        return Outcome {
-            answer: Answer::OwnNumber,
-            node,
-        };
+        return Err(Answer::OwnNumber);
     }
-    let owner = slots[slot as usize];
-    if wrong_side(owner == node.me, movement) {
-        return Outcome {
-            answer: Answer::WrongSide,
-            node,
-        };
+    if wrong_side(slots[usize::from(slot)] == node.me, movement) {
+        return Err(Answer::WrongSide);
     }
+    if beside >= tables::MOST_MARKS {
+        return Err(Answer::MarksFull);
+    }
+    Ok(())
+}
+
+// The checks of a mark, and the mark.
+fn mark_slot(node: Node, slots: &[u16], slot: u16, movement: Move) -> Outcome
+    requires { length slots.now ≡ slot_count }
+    ensures { result ≡ checked (answered node) (mark_checks node slots.now slot movement) (answered (marking slot movement node) Done) }
+{
     let rest = without(node, slot);
-    if rest.marked >= tables::MOST_MARKS {
-        return Outcome {
-            answer: Answer::MarksFull,
-            node,
-        };
-    }
-    let mark = Mark { slot, movement };
-    let next = with_mark(rest, mark);
-    Outcome {
-        answer: Answer::Done,
-        node: next,
+    let check = mark_check(&node, slots, slot, movement, rest.marked);
+    match check {
+        Err(answer) => Outcome { answer, node },
+        Ok(()) => {
+            let next = with_mark(rest, Mark { slot, movement });
+            Outcome {
+                answer: Answer::Done,
+                node: next,
+            }
+        }
     }
 }
 
@@ -167,47 +137,40 @@ pub fn set_mark(node: Node, slots: &[u16], slot: u16, movement: Move) -> Outcome
 {
     let check = entry::checks(node, slots.len() == tables::SLOTS as usize);
     match check {
-        Check::Refused(answer) => Outcome { answer, node },
-        Check::Passed => mark_slot(node, slots, slot, movement),
+        Err(answer) => Outcome { answer, node },
+        Ok(()) => mark_slot(node, slots, slot, movement),
     }
 }
 
 // ---- clearing
 
-// The checks of a clearing, and the node without the mark.
-fn unmark_slot(node: Node, slot: u16) -> Outcome
-    requires { node.marked ≤ mark_room }
-    ensures { result ≡ checked (answered node) (unmark_checks node slot) (answered (unmarking slot node) Done) }
+// The checks of a clearing.
+fn clear_check(node: Node, slot: u16) -> Check
+    ensures { result ≡ checked Err (clear_checks node slot) cleared }
 {
+    entry::checks(node, true)?;
     if slot >= tables::SLOTS {
-        return Outcome {
-            answer: Answer::NoSuchSlot,
-            node,
-        };
+        return Err(Answer::NoSuchSlot);
     }
-    let marking = find(node, slot);
-    match marking {
-        Marking::Unmarked => Outcome {
-            answer: Answer::NotMarked,
-            node,
-        },
-        Marking::Moving(_) => {
-            let rest = without(node, slot);
-            Outcome {
-                answer: Answer::Done,
-                node: rest,
-            }
-        }
+    if find(node, slot).is_none() {
+        return Err(Answer::NotMarked);
     }
+    Ok(())
 }
 
 // Takes a slot's mark away.
 pub fn clear_mark(node: Node, slot: u16) -> Outcome
     ensures { result ≡ clear_mark node slot }
 {
-    let check = entry::checks(node, true);
+    let check = clear_check(node, slot);
     match check {
-        Check::Refused(answer) => Outcome { answer, node },
-        Check::Passed => unmark_slot(node, slot),
+        Err(answer) => Outcome { answer, node },
+        Ok(()) => {
+            let rest = without(node, slot);
+            Outcome {
+                answer: Answer::Done,
+                node: rest,
+            }
+        }
     }
 }

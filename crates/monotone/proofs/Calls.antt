@@ -1,4 +1,5 @@
 -- Every call, by its kind.
+use Rattle.std.specs.Prelude.{None, Option, Some}
 use mathlib.Core.Path.{◌≡◌, refl, ap}
 use mathlib.Core.Logic.{◌⊎◌, inl, inr}
 use mathlib.Core.Bool.{true, false}
@@ -24,8 +25,6 @@ use Rattle.frames.specs.Frames.{frame_of, bitmap_of}
 use Rattle.frames.specs.declared.Header.{Header}
 use Rattle.frames.specs.declared.Kind.{Kind}
 use Rattle.frames.specs.declared.Kind.TheVariants.{Heartbeat, Report, Fail, Request, Ack, Probe, Tick}
-use Rattle.frames.specs.declared.Decoded.{Decoded}
-use Rattle.frames.specs.declared.Decoded.TheVariants.{NotAFrame, Good}
 use Rattle.refusals.specs.Refusals.{is_unlisted, names_this_node, refusals, turns_away}
 use Rattle.refusals.proofs.Admitted.{slots_whole, admitted, arrives, all_turn_away}
 use Rattle.failure.specs.Keeps.{Kept}
@@ -49,6 +48,7 @@ use Rattle.monotone.specs.Runs.{World, after}
 use Rattle.monotone.specs.NeverSlidesBack.{owner, Owned, PassesUp}
 use Rattle.monotone.proofs.Onward.{ReplicaAtZero, Moves, world, left, Alike, alike, Quiet, quiet_moves}
 use Rattle.monotone.proofs.Heartbeats.{replica_moves, master_moves}
+use Rattle.frames.specs.declared.Frame.{Frame}
 use Rattle.monotone.proofs.Wins.{win_moves}
 
 -- ---- quiet calls
@@ -147,9 +147,9 @@ frame_moves n slots reports line z =
     away : Moves (world n slots reports) (world n slots reports)
     away = quiet_moves n n slots reports reports (same n) z
 
-    go : (d : Decoded) → ((a : ℕ) → test_for a (refusals n (length slots) (length reports) d) ≡ false) → Moves (world n slots reports) (left (taken_in n slots reports (bitmap_of line) d))
-    go NotAFrame p = away
-    go (Good f) p =
+    go : (d : Option Frame) → ((a : ℕ) → test_for a (refusals n (length slots) (length reports) d) ≡ false) → Moves (world n slots reports) (left (taken_in n slots reports (bitmap_of line) d))
+    go None p = away
+    go (Some f) p =
         let w = admitted n (length slots) (length reports) f p in
         let t = f.header.time in
         let e = f.header.epoch in

@@ -1,4 +1,5 @@
 -- The claims of the computed lists, without computing their lines: each line reads as the heartbeat that was written.
+use Rattle.std.specs.Prelude.{Some}
 use mathlib.Core.Path.{◌≡◌, refl, ap, ◌∙◌}
 use mathlib.Core.Bool.{true, false}
 use mathlib.Core.List.{List, [], ◌∷◌}
@@ -15,7 +16,6 @@ use Rattle.tables.proofs.Checks.{part}
 use Rattle.tables.proofs.Sets.{bit_zero, bit_power}
 use Rattle.tables.proofs.Walks.{map_kept}
 use Rattle.answers.specs.Answers.{number}
-use Rattle.answers.specs.declared.Check.TheVariants.{Passed}
 use Rattle.answers.proofs.Checks.{by_check}
 use Rattle.state.specs.Changes.{arrived}
 use Rattle.state.specs.Outcomes.{Stepped}
@@ -24,7 +24,6 @@ use Rattle.hexdigits.proofs.Writing.{no_bytes, one_byte}
 use Rattle.frames.specs.Lines.{Bytes, Fits}
 use Rattle.frames.specs.declared.Frame.{Frame}
 use Rattle.frames.specs.declared.Kind.TheVariants.{Heartbeat}
-use Rattle.frames.specs.declared.Decoded.TheVariants.{Good}
 use Rattle.frames.proofs.OneLine.{one_line}
 use Rattle.refusals.specs.Refusals.{refusal}
 use Rattle.ownership.specs.Claim.{Claimant, fate, fate_at, entry_after, claim}
@@ -35,6 +34,7 @@ use Rattle.node.specs.Calls.{Call, called, outcome}
 use Rattle.monotone.specs.Runs.{World, after}
 use Rattle.monotone.specs.Before.{before14}
 use Rattle.monotone.specs.Examples.{claims}
+use Rattle.answers.specs.Refusing.{cleared}
 use Rattle.monotone.proofs.Onward.{left}
 
 -- ---- the line
@@ -69,7 +69,7 @@ pub record Heard (w : World) (sender epoch : ℕ) : Type 0 where
   pub small : all_of (ltb sender 256 ∷ ltb epoch 4096 ∷ []) ≡ true
   pub slots : length w.tables.slots ≡ slot_count
   pub reports : length w.tables.reports ≡ report_count
-  pub passes : refusal w.node slot_count report_count (Good (claim_of sender epoch)) ≡ Passed
+  pub passes : refusal w.node slot_count report_count (Some (claim_of sender epoch)) ≡ cleared
 
 abbrev pub heard : World → ℕ → ℕ → Stepped
 heard w sender epoch = slotted_step w.tables.reports (heartbeat (arrived 0 epoch w.node) w.tables.slots bitmap sender Master epoch)

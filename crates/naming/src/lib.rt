@@ -27,15 +27,21 @@ pub struct Naming {
     pub reporter: Numbers,
 }
 
+const NOBODY: Naming = Naming {
+    listed: Numbers::Nobody,
+    follower: Numbers::Nobody,
+    others: Numbers::Nobody,
+    reporter: Numbers::Nobody,
+};
+
 // A kind that names one node, which may not be this one; a master's heartbeat is such.
 fn one(number: u8) -> Naming
     ensures { result ≡ named (Heartbeat number Master) }
 {
     Naming {
         listed: Numbers::One(number),
-        follower: Numbers::Nobody,
         others: Numbers::One(number),
-        reporter: Numbers::Nobody,
+        ..NOBODY
     }
 }
 
@@ -45,23 +51,8 @@ fn two(first: u8, second: u8) -> Naming
 {
     Naming {
         listed: Numbers::Two(first, second),
-        follower: Numbers::Nobody,
         others: Numbers::Two(first, second),
-        reporter: Numbers::Nobody,
-    }
-}
-
-fn heard(sender: u8, role: Role) -> Naming
-    ensures { result ≡ named (Heartbeat sender role) }
-{
-    match role {
-        Role::Master => one(sender),
-        Role::Replica(master) => Naming {
-            listed: Numbers::Two(sender, master),
-            follower: Numbers::Two(sender, master),
-            others: Numbers::One(sender),
-            reporter: Numbers::Nobody,
-        },
+        ..NOBODY
     }
 }
 
@@ -70,48 +61,46 @@ pub fn named(kind: Kind) -> Naming
     ensures { result ≡ named kind }
 {
     match kind {
-        Kind::Heartbeat { sender, role } => heard(sender, role),
+        Kind::Heartbeat {
+            sender,
+            role: Role::Master,
+        } => one(sender),
+        Kind::Heartbeat {
+            sender,
+            role: Role::Replica(master),
+        } => Naming {
+            follower: Numbers::Two(sender, master),
+            others: Numbers::One(sender),
+            ..two(sender, master)
+        },
         Kind::Report {
             reporter,
             subject,
             ..
         } => Naming {
-            listed: Numbers::Two(reporter, subject),
-            follower: Numbers::Nobody,
-            others: Numbers::Two(reporter, subject),
             reporter: Numbers::Two(reporter, subject),
+            ..two(reporter, subject)
         },
         Kind::Fail { sender, subject } => two(sender, subject),
         Kind::Request { candidate } => one(candidate),
         Kind::Ack { voter, candidate } => Naming {
-            listed: Numbers::Two(voter, candidate),
-            follower: Numbers::Nobody,
             others: Numbers::One(voter),
-            reporter: Numbers::Nobody,
+            ..two(voter, candidate)
         },
         Kind::Probe { subject, .. } => one(subject),
-        Kind::Tick => Naming {
-            listed: Numbers::Nobody,
-            follower: Numbers::Nobody,
-            others: Numbers::Nobody,
-            reporter: Numbers::Nobody,
-        },
+        Kind::Tick => NOBODY,
     }
 }
 
-// One of the numbers is past a roster of that size.
+// One of the numbers is past a roster of that size. (This and some_own differ in their test: a function lent the test would
+// be longer than both, with what it asks of the test and promises.)
 pub fn some_past(size: u16, numbers: Numbers) -> bool
     ensures { result ≡ some (leb size) numbers }
 {
     match numbers {
         Numbers::Nobody => false,
-        Numbers::One(number) => size <= number as u16,
-        Numbers::Two(first, second) => {
-            if size <= first as u16 {
-                return true;
-            }
-            size <= second as u16
-        }
+        Numbers::One(number) => size <= u16::from(number),
+        Numbers::Two(first, second) => size <= u16::from(first) || size <= u16::from(second),
     }
 }
 
@@ -121,13 +110,8 @@ pub fn some_own(me: u16, numbers: Numbers) -> bool
 {
     match numbers {
         Numbers::Nobody => false,
-        Numbers::One(number) => me == number as u16,
-        Numbers::Two(first, second) => {
-            if me == first as u16 {
-                return true;
-            }
-            me == second as u16
-        }
+        Numbers::One(number) => me == u16::from(number),
+        Numbers::Two(first, second) => me == u16::from(first) || me == u16::from(second),
     }
 }
 
@@ -135,8 +119,7 @@ pub fn same(numbers: Numbers) -> bool
     ensures { result ≡ same numbers }
 {
     match numbers {
-        Numbers::Nobody => false,
-        Numbers::One(_) => false,
+        Numbers::Nobody | Numbers::One(_) => false,
         Numbers::Two(first, second) => first == second,
     }
 }

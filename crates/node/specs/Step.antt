@@ -1,5 +1,5 @@
 -- What a frame is answered: document 01. The checks stand in refusals, what each kind does in kinds.
-use Rattle.std.specs.Prelude.{ℕ, List, length}
+use Rattle.std.specs.Prelude.{ℕ, List, length, None, Option, Some}
 use Rattle.tables.specs.Checks.{checked}
 use Rattle.answers.specs.declared.Answer.{Answer}
 use Rattle.answers.specs.declared.Answer.TheVariants as answer
@@ -8,8 +8,6 @@ use Rattle.state.specs.Outcomes.{answered, Stepped}
 use Rattle.state.specs.declared.Node.{Node}
 use Rattle.frames.specs.Frames.{frame_of, bitmap_of}
 use Rattle.frames.specs.declared.Frame.{Frame}
-use Rattle.frames.specs.declared.Decoded.{Decoded}
-use Rattle.frames.specs.declared.Decoded.TheVariants.{NotAFrame, Good}
 use Rattle.refusals.specs.Refusals.{refusals}
 use Rattle.kinds.specs.Kinds.{keeping, on_kind}
 
@@ -22,9 +20,9 @@ abbrev pub taken : Node → List ℕ → List ℕ → List ℕ → Frame → Ste
 taken n slots reports bitmap f = on_kind (arrived f.header.time f.header.epoch n) slots reports bitmap f.header f.kind
 
 -- what comes past the checks, which a line that is no frame does not pass
-abbrev pub taken_in : Node → List ℕ → List ℕ → List ℕ → Decoded → Stepped
-taken_in n slots reports bitmap NotAFrame = turned_away n slots reports answer.NotAFrame
-taken_in n slots reports bitmap (Good f) = taken n slots reports bitmap f
+abbrev pub taken_in : Node → List ℕ → List ℕ → List ℕ → Option Frame → Stepped
+taken_in n slots reports bitmap None = turned_away n slots reports answer.NotAFrame
+taken_in n slots reports bitmap (Some f) = taken n slots reports bitmap f
 
 -- a line
 unfoldable pub on_frame : Node → List ℕ → List ℕ → List ℕ → Stepped

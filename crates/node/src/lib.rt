@@ -6,31 +6,27 @@ ghost use Rattle.openings.specs.Openings.{opens};
 ghost use Rattle.marks.specs.MarkChanges.{set_mark, clear_mark};
 ghost use Rattle.node.specs.Step.{on_frame};
 
-use answers::{Answer, Check};
-use frames::Decoded;
+use answers::Answer;
+use frames::Frame;
 use state::{Move, Node, Outcome};
 
 // A frame's line, for every node, tables and bytes.
+#[tactic(auto, using(answers::proofs::Checks::by_check), unfolding(crate::specs::Step::on_frame))]
 pub fn frame(node: Node, slots: &mut [u16], reports: &mut [u64], line: &[u8]) -> Outcome
     ensures { record { outcome = result; slots = slots.new; reports = reports.new } ≡ on_frame node slots.old reports.old line.now }
 {
     let decoded = frames::decode(line);
-    let check = refusals::refusal(node, slots.len(), reports.len(), decoded);
-    match check {
-        Check::Refused(answer) => Outcome { answer, node },
-        Check::Passed => match decoded {
-            Decoded::NotAFrame => Outcome {
-                answer: Answer::NotAFrame,
-                node,
-            },
-            Decoded::Good(frame) => {
-                let header = frame.header;
-                let kind = frame.kind;
-                let next = changes::arrived(node, header.time, header.epoch);
-                kinds::by_kind(next, slots, reports, line, header, kind)
-            }
-        },
+    if let Err(answer) = refusals::refusal(node, slots.len(), reports.len(), decoded) {
+        return Outcome { answer, node };
     }
+    let Some(Frame { header, kind }) = decoded else {
+        return Outcome {
+            answer: Answer::NotAFrame,
+            node,
+        };
+    };
+    let next = changes::arrived(node, header.time, header.epoch);
+    kinds::by_kind(next, slots, reports, line, header, kind)
 }
 
 // An election opened: a call of its own, with the time.

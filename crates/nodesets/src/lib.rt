@@ -18,13 +18,11 @@ pub fn none() -> NodeSet
     NodeSet { word: 0 }
 }
 
+#[tactic(auto, using(tables::proofs::Words::has_in, tables::proofs::Words::has_out))]
 pub fn has(set: NodeSet, v: u16) -> bool
     ensures { result ≡ has set v }
 {
-    if v >= MOST_NODES {
-        return false;
-    }
-    (set.word >> v) % 2 == 1
+    v < MOST_NODES && (set.word >> v) % 2 == 1
 }
 
 // With one number more; a number that no roster has changes nothing.
@@ -46,6 +44,7 @@ pub fn count(set: NodeSet) -> u32
 }
 
 // More than half of the whole are in the part, by counts of ones.
+#[tactic(auto, using(tables::proofs::Words::majority_one))]
 pub fn majority(whole: NodeSet, part: NodeSet) -> bool
     ensures { result ≡ majority whole part }
 {
@@ -53,6 +52,7 @@ pub fn majority(whole: NodeSet, part: NodeSet) -> bool
 }
 
 // Every member of the part is one of the whole.
+#[tactic(auto, using(tables::proofs::Words::alone))]
 pub fn within(part: NodeSet, whole: NodeSet) -> bool
     ensures { result ≡ within part whole }
 {
@@ -73,10 +73,8 @@ pub fn among(entries: &[u16]) -> NodeSet
     ensures { result ≡ among entries.now }
 {
     let mut set = none();
-    let mut i: usize = 0;
-    while i < entries.len() {
-        set = add(set, entries[i]);
-        i += 1;
+    for &entry in entries {
+        set = add(set, entry);
     }
     set
 }
@@ -85,8 +83,5 @@ pub fn among(entries: &[u16]) -> NodeSet
 pub fn below(set: NodeSet, n: u16) -> bool
     ensures { result ≡ below set n }
 {
-    if n >= MOST_NODES {
-        return true;
-    }
-    set.word >> n == 0
+    n >= MOST_NODES || set.word >> n == 0
 }

@@ -6,8 +6,8 @@ use Rattle.answers.specs.declared.Answer.TheVariants.{Done}
 use Rattle.state.specs.Node.{voting_master}
 use Rattle.state.specs.Changes.{with_clock, with_current, with_election}
 use Rattle.state.specs.declared.Node.{Node}
-use Rattle.state.specs.declared.Election.TheVariants.{Open}
 use Rattle.soundness.specs.Sound.{sound}
+use Rattle.state.specs.Node.{an_election}
 use Rattle.openings.specs.Openings.{opens}
 
 -- node n, lent that slot table, became n', in which a new election is open
@@ -16,7 +16,7 @@ pub record NewElection (slots : List ℕ) (n n' : Node) : Type 0 where
   pub opened : ℕ
   pub voters : NodeSet
   pub heard : NodeSet
-  pub election : n'.election ≡ Open epoch opened voters heard
+  pub election : n'.election ≡ an_election epoch opened voters heard
   -- currentEpoch goes up by 1 and is its epoch; it is opened now
   pub raised : epoch ≡ n.current + 1
   pub current : n'.current ≡ epoch

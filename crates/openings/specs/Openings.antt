@@ -1,5 +1,5 @@
 -- An election opened: document 01, "Election", its first paragraph, and document 02, [3]. Past the refusals now is the clock.
-use Rattle.std.specs.Prelude.{ℕ, ◌+◌, Bool, false, not, List, [], ◌∷◌, ◌++◌, eqb, ltb, leb, length}
+use Rattle.std.specs.Prelude.{ℕ, ◌+◌, Bool, false, not, List, [], ◌∷◌, ◌++◌, eqb, ltb, leb, length, None, Option, Some}
 use Rattle.tables.specs.Checks.{checked}
 use Rattle.tables.specs.Sizes.{slot_count, top, time_end}
 use Rattle.ages.specs.Ages.{age, opening_young}
@@ -12,14 +12,14 @@ use Rattle.state.specs.Outcomes.{answered}
 use Rattle.state.specs.declared.Node.{Node}
 use Rattle.state.specs.declared.Role.{Role}
 use Rattle.state.specs.declared.Election.{Election}
-use Rattle.state.specs.declared.Election.TheVariants.{Closed, Open}
 use Rattle.state.specs.declared.Outcome.{Outcome}
+use Rattle.state.specs.Node.{an_election}
 use Rattle.entry.specs.Entry.{entry_checks}
 
 -- 28: an election is open, and its opening is too young
-abbrev pub young : Node → Election → Bool
-young n Closed = false
-young n (Open epoch opened voters heard) = opening_young n.timeout (age n.clock opened)
+abbrev pub young : Node → Option Election → Bool
+young n None = false
+young n (Some e) = opening_young n.timeout (age n.clock e.opened)
 
 -- 24, 25, 26, 28 and 9, for a node of that role
 abbrev pub open_checks : Node → List ℕ → Role → List (Bool × Answer)
@@ -33,7 +33,7 @@ open_checks n slots role =
 
 -- it replaces any older one: currentEpoch goes up by 1 and is its epoch, its set is the voting masters by the table, none heard
 unfoldable pub opening : Node → List ℕ → Node
-opening n slots = with_election (Open (n.current + 1) n.clock (voting_masters n slots) none) (with_current (n.current + 1) n)
+opening n slots = with_election (an_election (n.current + 1) n.clock (voting_masters n slots) none) (with_current (n.current + 1) n)
 
 -- past the refusals, with the clock moved
 abbrev pub standing : Node → List ℕ → Outcome

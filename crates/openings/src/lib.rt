@@ -6,8 +6,8 @@ ghost use Rattle.tables.specs.Checks.{checked};
 ghost use Rattle.tables.specs.Sizes.{top};
 ghost use Rattle.state.specs.Node.{record_at, followed};
 ghost use Rattle.soundness.specs.Sound.{sound};
+ghost use Rattle.answers.specs.Refusing.{cleared};
 ghost use Rattle.openings.specs.Openings.{young, open_checks, opening, standing, open_refusals, opens};
-ghost use Rattle.answers.specs.declared.Check.TheVariants.{Passed, Refused};
 
 use answers::{Answer, Check};
 use state::{Election, Flag, Node, Outcome, Role};
@@ -16,39 +16,33 @@ use state::{Election, Flag, Node, Outcome, Role};
 fn young(node: Node) -> bool
     ensures { result ≡ young node node.election }
 {
-    let election = node.election;
-    match election {
-        Election::Closed => false,
-        Election::Open {
-            epoch: _,
-            opened,
-            voters: _,
-            heard: _,
-        } => ages::opening_young(node.timeout, ages::age(node.clock, opened)),
-    }
+    node.election.is_some_and(|election| ages::opening_young(
+        node.timeout,
+        ages::age(node.clock, election.opened),
+    ))
 }
 
 // 24, 25, 26, 28 and 9, by this node's role and the flag of the node that it follows.
 fn open_refusal(node: Node, slots: &[u16], role: Role, flag: Flag) -> Check
     requires { flag ≡ (record_at node (followed role)).flag }
-    ensures { result ≡ checked Refused (open_checks node slots.now role) Passed }
+    ensures { result ≡ checked Err (open_checks node slots.now role) cleared }
 {
     if state::is_master(role) {
-        return Check::Refused(Answer::NotReplica);
+        return Err(Answer::NotReplica);
     }
-    if state::is_fail(flag) {} else {
-        return Check::Refused(Answer::OwnMasterNotFailed);
+    if !state::is_fail(flag) {
+        return Err(Answer::OwnMasterNotFailed);
     }
-    if state::owns(slots, state::followed(role) as u16) {} else {
-        return Check::Refused(Answer::OwnMasterEmpty);
+    if !state::owns(slots, u16::from(state::followed(role))) {
+        return Err(Answer::OwnMasterEmpty);
     }
     if young(node) {
-        return Check::Refused(Answer::ElectionYoung);
+        return Err(Answer::ElectionYoung);
     }
     if node.current >= tables::TOP {
-        return Check::Refused(Answer::AtTheTop);
+        return Err(Answer::AtTheTop);
     }
-    Check::Passed
+    Ok(())
 }
 
 // The next epoch's election. The checks have shown that there is a next epoch.
@@ -64,12 +58,12 @@ fn opening(node: Node, slots: &[u16]) -> Node
     let next = changes::with_current(node, epoch);
     changes::with_election(
         next,
-        Election::Open {
+        Some(Election {
             epoch,
             opened: node.clock,
             voters,
             heard,
-        },
+        }),
     )
 }
 
@@ -78,16 +72,11 @@ fn standing(node: Node, slots: &[u16]) -> Outcome
     requires { sound node ≡ true }
     ensures { result ≡ standing node slots.now }
 {
-    let me = node.me as usize;
-    let own = node.records[me];
-    let role = own.role;
-    let m = state::followed(role) as usize;
-    let known = node.records[m];
-    let flag = known.flag;
-    let check = open_refusal(node, slots, role, flag);
-    match check {
-        Check::Refused(answer) => Outcome { answer, node },
-        Check::Passed => Outcome {
+    let role = node.records[usize::from(node.me)].role;
+    let known = node.records[usize::from(state::followed(role))];
+    match open_refusal(node, slots, role, known.flag) {
+        Err(answer) => Outcome { answer, node },
+        Ok(()) => Outcome {
             answer: Answer::Done,
             node: opening(node, slots),
         },
@@ -95,31 +84,27 @@ fn standing(node: Node, slots: &[u16]) -> Outcome
 }
 
 // 1 and 7, then 5 and 4.
+#[tactic(auto, using(answers::proofs::Checks::in_two))]
 fn early_refusal(node: Node, slots: &[u16], time: u64) -> Check
-    ensures { result ≡ checked Refused (open_refusals node slots.now time) Passed }
+    ensures { result ≡ checked Err (open_refusals node slots.now time) cleared }
 {
-    let check = entry::checks(node, slots.len() == tables::SLOTS as usize);
-    match check {
-        Check::Refused(answer) => Check::Refused(answer),
-        Check::Passed => {
-            if time >= tables::TIME_END {
-                return Check::Refused(Answer::OutOfBounds);
-            }
-            if time < node.clock {
-                return Check::Refused(Answer::BeforeClock);
-            }
-            Check::Passed
-        }
+    entry::checks(node, slots.len() == usize::from(tables::SLOTS))?;
+    if time >= tables::TIME_END {
+        return Err(Answer::OutOfBounds);
     }
+    if time < node.clock {
+        return Err(Answer::BeforeClock);
+    }
+    Ok(())
 }
 
 // Opens an election, if this node may stand for one now.
+#[tactic(auto, using(answers::proofs::Checks::by_check), unfolding(crate::specs::Openings::opens))]
 pub fn open(node: Node, slots: &[u16], time: u64) -> Outcome
     ensures { result ≡ opens node slots.now time }
 {
-    let check = early_refusal(node, slots, time);
-    match check {
-        Check::Refused(answer) => Outcome { answer, node },
-        Check::Passed => standing(changes::with_clock(node, time), slots),
+    match early_refusal(node, slots, time) {
+        Err(answer) => Outcome { answer, node },
+        Ok(()) => standing(changes::with_clock(node, time), slots),
     }
 }

@@ -1,4 +1,5 @@
 -- The reading of a claim 64 slots at a time: the walk goes on over slots that are not claimed, and over 64 that are the sender's own.
+use Rattle.std.specs.Prelude.{Option}
 use mathlib.Core.Path.{◌≡◌, refl, ◌∙◌}
 use mathlib.Core.Bool.{Bool, true, false, cond}
 use mathlib.Core.List.{List, [], ◌∷◌}
@@ -8,7 +9,6 @@ use lib.Dec.{eqb, ltb, leb}
 use lib.ListN.{length, get_or}
 use borrow.Author.Tests.{eq-eqb, eqb-true}
 use Rattle.tables.specs.Sets.{claimed}
-use Rattle.tables.specs.declared.Found.{Found}
 use Rattle.tables.proofs.Below.{each}
 use Rattle.tables.proofs.Checks.{part}
 use Rattle.bitmaps.proofs.Scan.{lowest}
@@ -27,7 +27,7 @@ own_fate c m s o h e = by (claimed m s)
     by true = rw (e, h, eq-eqb c.sender c.sender refl)
     by false = refl
 
-module _ {c : Claimant} {m : List ℕ} {g : Claimed} {n : ℕ} {l : List ℕ} {b r : ℕ} {z : Found} where
+module _ {c : Claimant} {m : List ℕ} {g : Claimed} {n : ℕ} {l : List ℕ} {b r : ℕ} {z : Option ℕ} where
   -- over slots that are not claimed
   pub carries : Carries (λ s. Stands c m g n s l b r z) m n
   carries = record { over = λ h f i. passes i h (λ s a t u. unclaimed c m s (get_or l s 0) (f s a t (omega (arith, i.long)))) }

@@ -1,9 +1,7 @@
 -- What a master's bitmap makes of the slot table: document 01, "Heartbeat", the claims.
-use Rattle.std.specs.Prelude.{ℕ, Bool, true, false, cond, List, eqb, ltb, get_or}
+use Rattle.std.specs.Prelude.{ℕ, Bool, true, false, cond, List, eqb, ltb, get_or, None, Option, Some}
 use Rattle.tables.specs.Lists.{map_at, count_at, first_at}
 use Rattle.tables.specs.Sets.{claimed}
-use Rattle.tables.specs.declared.Found.{Found}
-use Rattle.tables.specs.declared.Found.TheVariants.{Nothing, At}
 use Rattle.answers.specs.declared.Tally.{Tally}
 use Rattle.ownership.specs.declared.Fate.{Fate}
 use Rattle.ownership.specs.declared.Fate.TheVariants.{Bound, Rebound, Stale, Stays}
@@ -63,9 +61,9 @@ is_stale Stale = true
 is_stale Stays = false
 
 -- of two finds the first, if it found something
-abbrev pub or_else : Found → Found → Found
-or_else Nothing b = b
-or_else (At i) b = At i
+abbrev pub or_else : Option ℕ → Option ℕ → Option ℕ
+or_else None b = b
+or_else (Some i) b = Some i
 
 -- what a claim leaves: the counts with the lowest stale slot, and the table
 pub record Claimed : Type 0 where

@@ -4,11 +4,11 @@
 
 ghost use Rattle.std.specs.Prelude.{◌≡◌, cond, ◌+◌, ◌-◌, ◌*◌, ◌/◌, ◌≤◌, ◌<◌, min, length};
 ghost use Rattle.tables.specs.Sets.{claimed, word_of};
-ghost use Rattle.ownership.specs.Claim.{claimant, fate, or_else, claim};
+ghost use Rattle.ownership.specs.Claim.{claimant, fate, claim};
 ghost use Rattle.ownership.specs.Own.{owned_by, all_own};
 
 use answers::Tally;
-use tables::Found;
+use std::cmp::Ordering;
 
 // What a claim of a slot comes to.
 #[derive(Clone, Copy)]
@@ -24,6 +24,7 @@ pub enum Fate {
 }
 
 // The fate of a claimed slot by its entry.
+#[tactic(auto, unfolding(crate::specs::Claim::fate))]
 fn fate_of(owner: u16, configs: &[u64], size: u16, sender: u16, config: u64) -> Fate
     ensures { result ≡ fate (claimant configs.now size sender config) owner }
 {
@@ -33,23 +34,10 @@ fn fate_of(owner: u16, configs: &[u64], size: u16, sender: u16, config: u64) -> 
     if owner == sender {
         return Fate::Stays;
     }
-    let known = records::known_at(configs, owner as usize);
-    if known < config {
-        return Fate::Rebound;
-    }
-    if known > config {
-        return Fate::Stale;
-    }
-    Fate::Stays
-}
-
-// A slot found now counts if none was found before.
-fn lowest(found: Found, s: usize) -> Found
-    ensures { result ≡ or_else found (Found.At s) }
-{
-    match found {
-        Found::Nothing => Found::At(s),
-        Found::At(i) => Found::At(i),
+    match records::known_at(configs, owner as usize).cmp(&config) {
+        Ordering::Less => Fate::Rebound,
+        Ordering::Greater => Fate::Stale,
+        Ordering::Equal => Fate::Stays,
     }
 }
 
@@ -63,10 +51,8 @@ fn owned_by(slots: &[u16], from: usize, node: u16) -> bool
         return false;
     }
     let mut all = true;
-    let mut k: usize = 0;
-    while k < 64 {
-        all = all & (slots[from + k] == node);
-        k += 1;
+    for &owner in &slots[from..from + 64] {
+        all &= owner == node;
     }
     all
 }
@@ -87,7 +73,7 @@ fn pending(slots: &[u16], bitmap: &[u8], from: usize, size: u16, sender: u16) ->
     if left < 64 {
         return word;
     }
-    if owned_by(slots, from, sender) {} else {
+    if !owned_by(slots, from, sender) {
         return word;
     }
     0
@@ -107,10 +93,10 @@ pub fn claim(
 {
     let mut bound: usize = 0;
     let mut rebound: usize = 0;
-    let mut stale = Found::Nothing;
-    let mut from: usize = 0;
-    while from < slots.len() {
+    let mut stale = None;
+    for from in (0..slots.len()).step_by(64) {
         let mut word = pending(slots, bitmap, from, size, sender);
+        // A word's bits, each turn without the lowest: no place is counted.
         while word != 0 {
             let s = from + u64::trailing_zeros(word) as usize;
             word = word & (word - 1);
@@ -123,11 +109,11 @@ pub fn claim(
                     slots[s] = sender;
                     rebound += 1;
                 }
-                Fate::Stale => stale = lowest(stale, s),
+                // The first that is found stays.
+                Fate::Stale => stale = stale.or(Some(s)),
                 Fate::Stays => {}
             }
         }
-        from += 64;
     }
     Tally {
         bound,

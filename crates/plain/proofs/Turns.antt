@@ -1,4 +1,5 @@
 -- The walk over the slots that looks at every bit, one slot a turn, as far as the table and the bitmap both go.
+use Rattle.std.specs.Prelude.{None, Option, Some}
 use mathlib.Core.Path.{◌≡◌, refl}
 use mathlib.Core.Bool.{Bool, true, false, cond}
 use mathlib.Core.List.{List}
@@ -9,8 +10,6 @@ use lib.Dec.{leb}
 use lib.ListN.{length, get_or, set}
 use borrow.Author.Tests.{eq-eqb, ne_eqb, leb-true, leb-false}
 use Rattle.tables.specs.Sets.{claimed}
-use Rattle.tables.specs.declared.Found.{Found}
-use Rattle.tables.specs.declared.Found.TheVariants.{Nothing, At}
 use Rattle.tables.proofs.Bitmap.{past_the_end}
 use Rattle.ownership.specs.Claim.{Claimant, fate, or_else, claim}
 use Rattle.ownership.specs.declared.Fate.TheVariants.{Bound, Rebound, Stale, Stays}
@@ -45,17 +44,17 @@ beyond m slots k h g = past_the_end m k (short (leb (length m) (slots / 8)) h)
 
 -- ---- the loop's invariant at slot s
 
-pub record Goes (c : Claimant) (m l₀ : List ℕ) (end s : ℕ) (l : List ℕ) (b r : ℕ) (z : Found) : Type 0 where
+pub record Goes (c : Claimant) (m l₀ : List ℕ) (end s : ℕ) (l : List ℕ) (b r : ℕ) (z : Option ℕ) : Type 0 where
   pub table : end ≤ length l₀
   pub bitmap : end ≤ length m * 8
   pub stands : Stands c m (claim c m l₀) (length l₀) s l b r z
 
 module _ {c : Claimant} {m l₀ : List ℕ} where
-  pub starts : {end : ℕ} → end ≡ Reach (length l₀) (length m) → Goes c m l₀ end 0 l₀ 0 0 Nothing
+  pub starts : {end : ℕ} → end ≡ Reach (length l₀) (length m) → Goes c m l₀ end 0 l₀ 0 0 None
   starts e = record { table = rw e (within_table (length l₀) (length m)); bitmap = rw e (within_bitmap (length l₀) (length m)); stands = begin }
 
-  module _ {end s : ℕ} {l : List ℕ} {b r : ℕ} {z : Found} (i : Goes c m l₀ end s l b r z) where
-    on : {l' : List ℕ} {b' r' : ℕ} {z' : Found} → Stands c m (claim c m l₀) (length l₀) (s + 1) l' b' r' z' → Goes c m l₀ end (s + 1) l' b' r' z'
+  module _ {end s : ℕ} {l : List ℕ} {b r : ℕ} {z : Option ℕ} (i : Goes c m l₀ end s l b r z) where
+    on : {l' : List ℕ} {b' r' : ℕ} {z' : Option ℕ} → Stands c m (claim c m l₀) (length l₀) (s + 1) l' b' r' z' → Goes c m l₀ end (s + 1) l' b' r' z'
     on s = record { table = i.table; bitmap = i.bitmap; stands = s }
 
     module _ (t : s < end) where
@@ -70,7 +69,7 @@ module _ {c : Claimant} {m l₀ : List ℕ} where
         pub rebinds : fate c (get_or l s 0) ≡ Rebound → Goes c m l₀ end (s + 1) (set l s c.sender) b (r + 1) z
         rebinds e = on (walk.rebinds i.stands in_table (eq-eqb _ _ h) e)
 
-        pub tells : {z' : Found} → z' ≡ or_else z (At s) → fate c (get_or l s 0) ≡ Stale → Goes c m l₀ end (s + 1) l b r z'
+        pub tells : {z' : Option ℕ} → z' ≡ or_else z (Some s) → fate c (get_or l s 0) ≡ Stale → Goes c m l₀ end (s + 1) l b r z'
         tells q e = on (walk.tells i.stands in_table (eq-eqb _ _ h) q e)
 
         pub keeps : fate c (get_or l s 0) ≡ Stays → Goes c m l₀ end (s + 1) l b r z

@@ -3,13 +3,14 @@
 #![tactic(auto)]
 
 ghost use Rattle.std.specs.Prelude.{◌≡◌, cond, ◌*◌, ◌/◌, leb};
-ghost use Rattle.ownership.specs.Claim.{claimant, fate, or_else, claim};
+ghost use Rattle.ownership.specs.Claim.{claimant, fate, claim};
 
 use answers::Tally;
 use ownership::Fate;
-use tables::Found;
+use std::cmp::Ordering;
 
-// The fate of a claimed slot by its entry.
+// The fate of a claimed slot by its entry, written once more: of the reading that this is held against it may have no code.
+#[tactic(auto, unfolding(ownership::specs::Claim::fate))]
 fn fate_of(owner: u16, configs: &[u64], size: u16, sender: u16, config: u64) -> Fate
     ensures { result ≡ fate (claimant configs.now size sender config) owner }
 {
@@ -19,23 +20,10 @@ fn fate_of(owner: u16, configs: &[u64], size: u16, sender: u16, config: u64) -> 
     if owner == sender {
         return Fate::Stays;
     }
-    let known = records::known_at(configs, owner as usize);
-    if known < config {
-        return Fate::Rebound;
-    }
-    if known > config {
-        return Fate::Stale;
-    }
-    Fate::Stays
-}
-
-// A slot found now counts if none was found before.
-fn lowest(found: Found, s: usize) -> Found
-    ensures { result ≡ or_else found (Found.At s) }
-{
-    match found {
-        Found::Nothing => Found::At(s),
-        Found::At(i) => Found::At(i),
+    match records::known_at(configs, owner as usize).cmp(&config) {
+        Ordering::Less => Fate::Rebound,
+        Ordering::Greater => Fate::Stale,
+        Ordering::Equal => Fate::Stays,
     }
 }
 
@@ -43,10 +31,7 @@ fn lowest(found: Found, s: usize) -> Found
 fn reach(slots: usize, bytes: usize) -> usize
     ensures { result ≡ cond (leb bytes (slots / 8)) (bytes * 8) slots }
 {
-    if bytes <= slots / 8 {
-        return bytes * 8;
-    }
-    slots
+    if bytes <= slots / 8 { bytes * 8 } else { slots }
 }
 
 // A master's claims: each slot of the bitmap goes to the sender or stays, by its owner's known configEpoch and the frame's.
@@ -63,11 +48,8 @@ pub fn claim(
     let end = reach(slots.len(), bitmap.len());
     let mut bound: usize = 0;
     let mut rebound: usize = 0;
-    let mut stale = Found::Nothing;
-    let mut next: usize = 0;
-    while next < end {
-        let s = next;
-        next += 1;
+    let mut stale = None;
+    for s in 0..end {
         if (bitmap[s / 8] >> (s % 8)) % 2 == 1 {
             match fate_of(slots[s], configs, size, sender, config) {
                 Fate::Bound => {
@@ -78,7 +60,8 @@ pub fn claim(
                     slots[s] = sender;
                     rebound += 1;
                 }
-                Fate::Stale => stale = lowest(stale, s),
+                // The first that is found stays.
+                Fate::Stale => stale = stale.or(Some(s)),
                 Fate::Stays => {}
             }
         }

@@ -1,4 +1,5 @@
 -- Probes and ticks keep a sound state sound. A probe is never about this node itself (refusal 6).
+use Rattle.std.specs.Prelude.{None, Option, Some}
 use mathlib.Core.Path.{◌≡◌, refl}
 use mathlib.Core.Bool.{Bool, true, false, cond, not}
 use mathlib.Core.List.{List, [], ◌∷◌}
@@ -14,8 +15,6 @@ use Rattle.state.specs.declared.Node.{Node}
 use Rattle.state.specs.declared.Role.{Role}
 use Rattle.state.specs.declared.Flag.{Flag}
 use Rattle.state.specs.declared.Flag.TheVariants.{Clear, Pfail, Fail}
-use Rattle.state.specs.declared.Moment.{Moment}
-use Rattle.state.specs.declared.Moment.TheVariants.{Never, At}
 use Rattle.state.specs.declared.Echo.{Echo}
 use Rattle.state.specs.declared.Echo.TheVariants.{Ping, Pong}
 use Rattle.soundness.specs.Sound.{sound, moment_sound, flag_sound}
@@ -26,9 +25,9 @@ use Rattle.failure.proofs.Records.{record_back}
 use Rattle.failure.proofs.Sound.{flagged_sound, looked_sound}
 use Rattle.probes.specs.Probes.{started, recovered, pong_flag, after_probe, probed, overdue, unanswered, flag_if_unanswered, suspected, all_suspected, all_looked_at, ticked}
 
-started_sound : (clock : ℕ) (x : Moment) → moment_sound clock x ≡ true → moment_sound clock (started clock x) ≡ true
-started_sound clock Never h = le-leb clock clock (omega arith)
-started_sound clock (At t) h = h
+started_sound : (clock : ℕ) (x : Option ℕ) → moment_sound clock x ≡ true → moment_sound clock (started clock x) ≡ true
+started_sound clock None h = le-leb clock clock (omega arith)
+started_sound clock (Some t) h = h
 
 cleared : (clock : ℕ) (t : Bool) (f : Flag) → flag_sound clock f ≡ true → flag_sound clock (cond t Clear f) ≡ true
 cleared clock true f h = refl
@@ -47,7 +46,7 @@ module _ (n : Node) (h : sound n ≡ true) where
   probed_sound slots s Pong d =
       let r = record_at n s in
       let f = pong_flag n slots s r.role r.flag in
-      other_sound n h s _ (λ l. ping_kept n.size n.clock n.current s (with_flag f r) (flag_kept n.size n.clock n.current s r (record_is_sound n h s l) f (pong_sound n slots s r.role r.flag (flag_is_sound n h s l))) Never refl) d
+      other_sound n h s _ (λ l. ping_kept n.size n.clock n.current s (with_flag f r) (flag_kept n.size n.clock n.current s r (record_is_sound n h s l) f (pong_sound n slots s r.role r.flag (flag_is_sound n h s l))) None refl) d
 
   unanswered_other : (k : ℕ) → unanswered n k (record_at n k) ≡ true → k ≡ n.me → ⊥
   unfolding unanswered

@@ -1,7 +1,7 @@
 -- A tick settles each node's flag by itself, whatever the order of the nodes, and what its loops come to.
 use mathlib.Core.Path.{◌≡◌, refl, sym, ap, ap₂, ◌∙◌}
-use mathlib.Core.Bool.{Bool, true, false, not}
-use mathlib.Core.List.{List, [], ◌∷◌}
+use mathlib.Core.Bool.{Bool, true, false, not, ◌&&◌}
+use mathlib.Core.List.{List}
 use mathlib.Core.Logic.{⊎_elim}
 use Prim.Native.Nat.{ℕ, zero, suc, ◌+◌, min, ◌≤◌, ◌<◌}
 use native.Mathlib.Nat.{le_of_suc-le-suc, not-suc-le-zero, eq-or-lt_of_le}
@@ -11,7 +11,6 @@ use lib.ListN.{length}
 use lib.Seq.{get_or-set_same, get_or-set_other}
 use borrow.Author.Tests.{lt-ltb}
 use Rattle.tables.specs.Sizes.{node_room}
-use Rattle.tables.specs.Checks.{all_of}
 use Rattle.tables.specs.Below.{in_turn}
 use Rattle.tables.proofs.Checks.{never}
 use Rattle.tables.proofs.Below.{in_turn_keeps}
@@ -130,9 +129,10 @@ abbrev pub NonePfail : ℕ → Node → Type 0
 NonePfail e m = (k : ℕ) → k < e → is_pfail (record_at m k).flag ≡ false
 
 -- the test of the loop, by its parts
-pub still : (quiet pfail : Bool) → all_of (not pfail ∷ quiet ∷ []) ≡ true → (pfail ≡ false) × (quiet ≡ true)
-still quiet true e = never (sym e)
-still quiet false e = (refl, e)
+pub still : (quiet pfail : Bool) → (quiet && not pfail) ≡ true → (pfail ≡ false) × (quiet ≡ true)
+still true false e = (refl, refl)
+still true true e = never (sym e)
+still false pfail e = never (sym e)
 
 -- there are as many records as at the start
 pub room_kept : (n x : Node) (k : ℕ) → x ≡ in_turn suspected k n → length x.records ≡ length n.records

@@ -1,6 +1,6 @@
 -- Pings, pongs and time: document 01, "Probe, tick", and document 02, [3]. Each definition takes the node as it is past the
 -- refusals: "now" is its clock, T its timeout, and s is the subject's number.
-use Rattle.std.specs.Prelude.{ℕ, Bool, false, cond, not, List, [], ◌∷◌, eqb, ltb}
+use Rattle.std.specs.Prelude.{ℕ, Bool, false, cond, not, List, [], ◌∷◌, eqb, ltb, None, Option, Some}
 use Rattle.tables.specs.Checks.{all_of, any_of}
 use Rattle.tables.specs.Below.{in_turn}
 use Rattle.ages.specs.Ages.{age, over_twice}
@@ -12,8 +12,6 @@ use Rattle.state.specs.declared.Record.{Record}
 use Rattle.state.specs.declared.Role.{Role}
 use Rattle.state.specs.declared.Flag.{Flag}
 use Rattle.state.specs.declared.Flag.TheVariants.{Clear, Pfail, Fail}
-use Rattle.state.specs.declared.Moment.{Moment}
-use Rattle.state.specs.declared.Moment.TheVariants.{Never, At}
 use Rattle.state.specs.declared.Echo.{Echo}
 use Rattle.state.specs.declared.Echo.TheVariants.{Ping, Pong}
 use Rattle.failure.specs.Failure.{flag_if_signalled, looked_at}
@@ -21,9 +19,9 @@ use Rattle.failure.specs.Failure.{flag_if_signalled, looked_at}
 -- ---- Probe
 
 -- ping sent: pending starts unless pending
-abbrev pub started : ℕ → Moment → Moment
-started now Never = At now
-started now (At t) = At t
+abbrev pub started : ℕ → Option ℕ → Option ℕ
+started now None = Some now
+started now (Some t) = Some t
 
 -- a pong clears FAIL, set at t, if the node is a replica, owns no slot, or FAIL is more than 2T old
 unfoldable pub recovered : Node → List ℕ → ℕ → Role → ℕ → Bool
@@ -39,7 +37,7 @@ pong_flag n slots s role (Fail t) = cond (recovered n slots s role t) Clear (Fai
 -- what is known of the subject after a probe; a pong clears pending too
 unfoldable pub after_probe : Node → List ℕ → ℕ → Echo → Record → Record
 after_probe n slots s Ping r = with_ping (started n.clock r.ping) r
-after_probe n slots s Pong r = with_ping Never (with_flag (pong_flag n slots s r.role r.flag) r)
+after_probe n slots s Pong r = with_ping None (with_flag (pong_flag n slots s r.role r.flag) r)
 
 unfoldable pub probed : Node → List ℕ → ℕ → Echo → Node
 probed n slots s echo = on_record s (after_probe n slots s echo) n
@@ -47,9 +45,9 @@ probed n slots s echo = on_record s (after_probe n slots s echo) n
 -- ---- Tick
 
 -- pending longer than T
-abbrev pub overdue : ℕ → ℕ → Moment → Bool
-overdue now timeout Never = false
-overdue now timeout (At t) = ltb timeout (age now t)
+abbrev pub overdue : ℕ → ℕ → Option ℕ → Bool
+overdue now timeout None = false
+overdue now timeout (Some t) = ltb timeout (age now t)
 
 -- each node but this one, unflagged and pending longer than T, becomes PFAIL
 unfoldable pub unanswered : Node → ℕ → Record → Bool

@@ -2,121 +2,85 @@
 // refusals, with the frame's time as its clock. Subjects, lent tables and the node may be anything.
 #![tactic(auto)]
 
-ghost use Rattle.std.specs.Prelude.{◌≡◌, not, [], ◌∷◌};
-ghost use Rattle.tables.specs.Checks.{all_of};
-ghost use Rattle.state.specs.Node.{is_pfail};
+ghost use Rattle.std.specs.Prelude.{◌≡◌};
 ghost use Rattle.probes.specs.Probes.{started, recovered, pong_flag, after_probe, probed, overdue, flag_if_unanswered, ticked};
 
-use state::{Echo, Flag, Moment, Node, Record, Role};
+use state::{Echo, Flag, Node, Record, Role};
 use tables::NODES;
 
 // ---- probe
 
-fn start(now: u64, ping: Moment) -> Moment
+fn start(now: u64, ping: Option<u64>) -> Option<u64>
     ensures { result ≡ started now ping }
 {
-    match ping {
-        Moment::Never => Moment::At(now),
-        Moment::At(t) => Moment::At(t),
-    }
+    ping.or(Some(now))
 }
 
 // Whether a pong clears FAIL, set at `failed`.
-fn is_recovered(node: Node, slots: &[u16], subject: u8, role: Role, failed: u64) -> bool
-    ensures { result ≡ recovered node slots.now subject role failed }
+#[tactic(auto, unfolding(crate::specs::Probes::recovered))]
+fn is_recovered(node: &Node, slots: &[u16], subject: u8, role: Role, failed: u64) -> bool
+    ensures { result ≡ recovered node.now slots.now subject role failed }
 {
-    if state::is_master(role) {} else {
-        return true;
-    }
-    if state::owns(slots, subject as u16) {} else {
-        return true;
-    }
-    ages::over_twice(node.timeout, ages::age(node.clock, failed))
+    !state::is_master(role)
+        || !state::owns(slots, u16::from(subject))
+        || ages::over_twice(node.timeout, ages::age(node.clock, failed))
 }
 
-fn pong_flag(node: Node, slots: &[u16], subject: u8, role: Role, flag: Flag) -> Flag
-    ensures { result ≡ pong_flag node slots.now subject role flag }
+#[tactic(auto, unfolding(crate::specs::Probes::pong_flag))]
+fn pong_flag(node: &Node, slots: &[u16], subject: u8, role: Role, flag: Flag) -> Flag
+    ensures { result ≡ pong_flag node.now slots.now subject role flag }
 {
     match flag {
-        Flag::Clear => Flag::Clear,
-        Flag::Pfail => Flag::Clear,
-        Flag::Fail(t) => {
-            if is_recovered(node, slots, subject, role, t) {
-                return Flag::Clear;
-            }
-            Flag::Fail(t)
-        }
+        Flag::Fail(t) if !is_recovered(node, slots, subject, role, t) => flag,
+        _ => Flag::Clear,
     }
 }
 
 // What is known of the subject after a probe.
-fn after_probe(node: Node, slots: &[u16], subject: u8, echo: Echo, known: Record) -> Record
-    ensures { result ≡ after_probe node slots.now subject echo known }
+#[tactic(auto, unfolding(crate::specs::Probes::after_probe))]
+fn after_probe(node: &Node, slots: &[u16], subject: u8, echo: Echo, known: Record) -> Record
+    ensures { result ≡ after_probe node.now slots.now subject echo known }
 {
     match echo {
-        Echo::Ping => {
-            let ping = known.ping;
-            changes::with_ping(known, start(node.clock, ping))
-        }
+        Echo::Ping => changes::with_ping(known, start(node.clock, known.ping)),
         Echo::Pong => {
-            let role = known.role;
-            let old = known.flag;
-            let flag = pong_flag(node, slots, subject, role, old);
-            changes::with_ping(changes::with_flag(known, flag), Moment::Never)
+            let flag = pong_flag(node, slots, subject, known.role, known.flag);
+            changes::with_ping(changes::with_flag(known, flag), None)
         }
     }
 }
 
 // A ping was sent to the subject, or its pong came.
+#[tactic(auto, unfolding(crate::specs::Probes::probed, state::specs::Changes::with_records))]
 pub fn probe(node: Node, slots: &[u16], subject: u8, echo: Echo) -> Node
     ensures { result ≡ probed node slots.now subject echo }
 {
-    let k = subject as usize;
+    let k = usize::from(subject);
     let mut next = node;
     if k < NODES {
         let known = next.records[k];
-        next.records[k] = after_probe(next, slots, subject, echo, known);
+        next.records[k] = after_probe(&next, slots, subject, echo, known);
     }
     next
 }
 
 // ---- tick
 
-fn is_overdue(node: Node, ping: Moment) -> bool
-    ensures { result ≡ overdue node.clock node.timeout ping }
+fn is_overdue(node: &Node, ping: Option<u64>) -> bool
+    ensures { result ≡ overdue node.now.clock node.now.timeout ping }
 {
-    match ping {
-        Moment::Never => false,
-        Moment::At(t) => node.timeout < ages::age(node.clock, t),
-    }
+    ping.is_some_and(|t| node.timeout < ages::age(node.clock, t))
 }
 
 // PFAIL of another node that is unflagged and pending longer than T.
-fn flag_if_unanswered(node: Node, k: u16, known: Record) -> Flag
-    ensures { result ≡ flag_if_unanswered node k known }
+#[tactic(auto, unfolding(crate::specs::Probes::flag_if_unanswered, crate::specs::Probes::unanswered))]
+fn flag_if_unanswered(node: &Node, k: u16, known: Record) -> Flag
+    ensures { result ≡ flag_if_unanswered node.now k known }
 {
-    let flag = known.flag;
-    if k == node.me {
-        return flag;
-    }
-    if state::is_clear(flag) {} else {
-        return flag;
-    }
-    let ping = known.ping;
-    if is_overdue(node, ping) {
+    if k != node.me && state::is_clear(known.flag) && is_overdue(node, known.ping) {
         return Flag::Pfail;
     }
-    flag
-}
-
-// Whether nobody was PFAIL so far, and the next one is not either.
-fn quiet_with(quiet: bool, flag: Flag) -> bool
-    ensures { result ≡ all_of (not (is_pfail flag) ∷ quiet ∷ []) }
-{
-    if state::is_pfail(flag) {
-        return false;
-    }
-    quiet
+    known.flag
 }
 
 // Time went on: PFAIL of all first, and the masters gathered on the way; then the look at all. Where nobody is PFAIL the look
@@ -128,32 +92,26 @@ pub fn tick(node: Node, slots: &[u16], reports: &[u64]) -> Node
     let mut next = node;
     let mut masters = nodesets::none();
     let mut quiet = true;
-    let mut k: u16 = 0;
-    while k < end {
-        let i = k as usize;
+    for k in 0..end {
+        let i = usize::from(k);
         let known = next.records[i];
-        let role = known.role;
-        masters = failure::with_master(masters, k, role);
-        let flag = flag_if_unanswered(next, k, known);
-        quiet = quiet_with(quiet, flag);
+        masters = failure::with_master(masters, k, known.role);
+        let flag = flag_if_unanswered(&next, k, known);
+        quiet &= !state::is_pfail(flag);
         next.records[i] = changes::with_flag(known, flag);
-        k += 1;
     }
     if quiet {
         return next;
     }
     let owners = nodesets::among(slots);
     let voters = nodesets::both(masters, owners);
-    let mut s: u16 = 0;
-    while s < end {
-        let i = s as usize;
+    for s in 0..end {
+        let i = usize::from(s);
         let known = next.records[i];
-        let flag = known.flag;
         next.records[i] = changes::with_flag(
             known,
-            failure::flag_if_signalled(next, voters, reports, s, flag),
+            failure::flag_if_signalled(next, voters, reports, s, known.flag),
         );
-        s += 1;
     }
     next
 }

@@ -1,4 +1,5 @@
 -- Document 01's cases that are marked with a star and document 02's of [3] and [10], all rows as one statement.
+use Rattle.std.specs.Prelude.{None, Option, Some}
 use mathlib.Core.Path.{◌≡◌, refl, ap, ◌∙◌}
 use mathlib.Core.Bool.{Bool, true, false}
 use mathlib.Core.List.{List, [], ◌∷◌, ◌++◌, map}
@@ -12,8 +13,6 @@ use Rattle.tables.specs.Below.{every}
 use Rattle.tables.specs.Checks.{checked, all_of}
 use Rattle.tables.specs.Lists.{first_from, first_at, is_found}
 use Rattle.tables.specs.Sets.{claimed}
-use Rattle.tables.specs.declared.Found.{Found}
-use Rattle.tables.specs.declared.Found.TheVariants.{Nothing, At}
 use Rattle.answers.specs.declared.Answer.TheVariants.{Granted, NotVoting, StaleEpoch, AlreadyVoted, VotedLately, Outdated, ClaimsNothing}
 use Rattle.state.specs.Node.{record_at, listed, master_at, owns, role_at, followed}
 use Rattle.state.specs.Changes.{with_records, with_clock, with_current, with_voted, arrived}
@@ -27,17 +26,16 @@ use Rattle.slots.specs.Cases.{KeyRow, key_answered, key_rows}
 use Rattle.slots.proofs.Cases.{key_cases}
 use Rattle.hexdigits.proofs.Writing.{no_bytes, one_byte, bytes_append}
 use Rattle.frames.specs.Lines.{Bytes, Fits}
-use Rattle.frames.specs.declared.Decoded.TheVariants.{Good}
 use Rattle.frames.proofs.OneLine.{one_line}
 use Rattle.refusals.specs.Refusals.{is_beyond, frame_refusals, refusals, refusal}
-use Rattle.answers.specs.declared.Check.{Check}
-use Rattle.answers.specs.declared.Check.TheVariants.{Passed}
 use Rattle.votes.specs.Votes.{request_checks, newer, granted, by_owners, requested}
 use Rattle.kinds.specs.Kinds.{keeping, on_kind}
 use Rattle.node.specs.Step.{on_frame}
 use Rattle.tables.proofs.Checks.{part}
 use Rattle.answers.proofs.Checks.{by_check}
 use Rattle.promises.specs.Cases.{voter, slots, slots_of_others, reports, claim_of_slot0, claim_of_slot16383, claim_of_nothing, Asked, asks, ask, request_of, line_of, VoteRow, vote_rows, outdated_rows, empty_rows, empty_master_rows, Row, key, votes, vote_answered, votes_answered, AllCases}
+use Rattle.answers.specs.declared.Answer.{Answer}
+use Rattle.answers.specs.Refusing.{Check, cleared}
 use Rattle.promises.specs.Cases as table
 
 -- ---- one request of the table
@@ -58,7 +56,7 @@ unfolding reports
 reports_long = refl
 
 -- a line that passes is the request: it reads as what was written
-asked_step : (lent : List ℕ) → length lent ≡ slot_count → (n : Node) (q : Asked) (o : Outcome) → Fits (request_of q) q.bitmap → refusal n slot_count report_count (Good (request_of q)) ≡ Passed
+asked_step : (lent : List ℕ) → length lent ≡ slot_count → (n : Node) (q : Asked) (o : Outcome) → Fits (request_of q) q.bitmap → refusal n slot_count report_count (Some (request_of q)) ≡ cleared
     → requested (arrived_at q n) lent q.bitmap q.candidate q.epoch q.config ≡ o → on_frame n lent reports (line_of q) ≡ keeping lent reports o
 unfolding line_of on_frame on_kind
 asked_step lent l n q o f p e = rw (by_check, one_line.read_back (request_of q) q.bitmap f, one_line.bitmap_back (request_of q) q.bitmap f refl, l, reports_long, p, e)
@@ -73,12 +71,12 @@ older true true x e = e
 older true false x e = refl
 older false l x e = refl
 
-skip : (p : ℕ → ℕ → Bool) (x : ℕ) → ((i : ℕ) → p i x ≡ false) → (k i : ℕ) → first_from p i (replicate k x) ≡ Nothing
+skip : (p : ℕ → ℕ → Bool) (x : ℕ) → ((i : ℕ) → p i x ≡ false) → (k i : ℕ) → first_from p i (replicate k x) ≡ None
 unfolding first_from
 skip p x f zero i = refl
 skip p x f (suc k) i = rw (f i) (skip p x f k (suc i))
 
-none_passes : (p : ℕ → ℕ → Bool) (a b c x k : ℕ) → p 0 a ≡ false → p 1 b ≡ false → p 2 c ≡ false → ((i : ℕ) → p i x ≡ false) → first_at p (a ∷ b ∷ c ∷ replicate k x) ≡ Nothing
+none_passes : (p : ℕ → ℕ → Bool) (a b c x k : ℕ) → p 0 a ≡ false → p 1 b ≡ false → p 2 c ≡ false → ((i : ℕ) → p i x ≡ false) → first_at p (a ∷ b ∷ c ∷ replicate k x) ≡ None
 unfolding first_from
 none_passes p a b c x k d e f g = rw (d, e, f) (skip p x g k 3)
 
@@ -90,17 +88,17 @@ module _ (m : Node) (bitmap : List ℕ) (config : ℕ) where
   owner_older : (k : ℕ) → Older k → newer m bitmap config k k ≡ false
   owner_older k o = older (claimed bitmap k) (listed m k) (ltb config (record_at m k).config) o
 
-  nothing_newer : listed m unowned ≡ false → Older 0 → Older 1 → Older 2 → first_at (newer m bitmap config) slots ≡ Nothing
+  nothing_newer : listed m unowned ≡ false → Older 0 → Older 1 → Older 2 → first_at (newer m bitmap config) slots ≡ None
   unfolding slots
   nothing_newer l a b c =
       none_passes (newer m bitmap config) 0 1 2 unowned 16381 (owner_older 0 a) (owner_older 1 b) (owner_older 2 c)
       (λ i. unlisted (claimed bitmap i) (ltb config (record_at m unowned).config) (listed m unowned) l)
 
 -- then the checks decide
-settles : (m : Node) (bitmap : List ℕ) (candidate epoch config : ℕ) (x : Found) → first_at (newer m bitmap config) slots ≡ x
+settles : (m : Node) (bitmap : List ℕ) (candidate epoch config : ℕ) (x : Option ℕ) → first_at (newer m bitmap config) slots ≡ x
     → requested m slots bitmap candidate epoch config ≡ checked (answered m) (request_checks m slots (role_at m candidate) bitmap epoch) (by_owners m (followed (role_at m candidate)) epoch x)
 unfolding requested
-settles m bitmap candidate epoch config x e = ap (λ (f : Found). checked (answered m) (request_checks m slots (role_at m candidate) bitmap epoch) (by_owners m (followed (role_at m candidate)) epoch f)) e
+settles m bitmap candidate epoch config x e = ap (λ (f : Option ℕ). checked (answered m) (request_checks m slots (role_at m candidate) bitmap epoch) (by_owners m (followed (role_at m candidate)) epoch f)) e
 
 -- where node 1 owns nothing, 11 comes before all else
 owns_nothing : owns slots_of_others 1 ≡ false
@@ -207,17 +205,17 @@ n10 = arrived_at q9 n9
 
 -- and none is turned away
 abbrev looks : Node → Asked → Check
-looks n q = refusal n slot_count report_count (Good (request_of q))
+looks n q = refusal n slot_count report_count (Some (request_of q))
 
 abbrev checks : List Check
 checks = looks voter q1 ∷ looks n1 q2 ∷ looks n2 q2 ∷ looks n3 q4 ∷ looks n4 q5 ∷ looks voter q6 ∷ looks voter q7 ∷ looks n7 q8 ∷ looks n9 q9 ∷ []
 
-all_pass : checks ≡ replicate 9 Passed
+all_pass : checks ≡ replicate 9 cleared
 unfolding every with_records with_clock with_current with_voted fresh_node cases_node arrays_whole bounds_kept before ids_ascend records_sound election_sound marks_ascend marks_sound own_clear sound is_beyond frame_refusals refusals granted voter
 all_pass = refl
 
-passes : (k : ℕ) → get_or checks k Passed ≡ get_or (replicate 9 Passed) k Passed
-passes k = ap (λ (l : List Check). get_or l k Passed) all_pass
+passes : (k : ℕ) → get_or checks k cleared ≡ get_or (replicate 9 cleared) k cleared
+passes k = ap (λ (l : List Check). get_or l k cleared) all_pass
 
 vote1 : requested n1 slots claim_of_slot0 3 4 2 ≡ answered n1 StaleEpoch
 unfolding with_records with_clock with_current with_voted fresh_node cases_node granted voter requested slots first_from
@@ -225,7 +223,7 @@ vote1 = refl
 
 vote2 : requested (arrived_at q2 n1) slots claim_of_slot0 3 5 2 ≡ answered n2 Granted
 unfolding with_records with_clock with_current with_voted fresh_node cases_node granted voter claim_of_slot0 slots first_from
-vote2 = settles (arrived_at q2 n1) claim_of_slot0 3 5 2 Nothing (nothing_newer (arrived_at q2 n1) claim_of_slot0 2 refl refl refl refl)
+vote2 = settles (arrived_at q2 n1) claim_of_slot0 3 5 2 None (nothing_newer (arrived_at q2 n1) claim_of_slot0 2 refl refl refl refl)
 
 vote3 : requested n3 slots claim_of_slot0 3 5 2 ≡ answered n3 AlreadyVoted
 unfolding with_records with_clock with_current with_voted fresh_node cases_node granted voter requested slots first_from
@@ -237,15 +235,15 @@ vote4 = refl
 
 vote5 : requested (arrived_at q5 n4) slots claim_of_slot0 4 6 2 ≡ answered n5 Granted
 unfolding with_records with_clock with_current with_voted fresh_node cases_node granted voter claim_of_slot0 slots first_from
-vote5 = settles (arrived_at q5 n4) claim_of_slot0 4 6 2 Nothing (nothing_newer (arrived_at q5 n4) claim_of_slot0 2 refl refl refl refl)
+vote5 = settles (arrived_at q5 n4) claim_of_slot0 4 6 2 None (nothing_newer (arrived_at q5 n4) claim_of_slot0 2 refl refl refl refl)
 
-slot_0 : first_at (newer (arrived_at q6 voter) claim_of_slot0 1) slots ≡ At 0
+slot_0 : first_at (newer (arrived_at q6 voter) claim_of_slot0 1) slots ≡ Some 0
 unfolding with_records with_clock with_current with_voted fresh_node cases_node voter slots first_from claim_of_slot0
 slot_0 = refl
 
 vote6 : requested (arrived_at q6 voter) slots claim_of_slot0 3 5 1 ≡ answered (arrived_at q6 voter) (Outdated 0)
 unfolding with_records with_clock with_current with_voted fresh_node cases_node granted voter claim_of_slot0 slots first_from
-vote6 = settles (arrived_at q6 voter) claim_of_slot0 3 5 1 (At 0) slot_0
+vote6 = settles (arrived_at q6 voter) claim_of_slot0 3 5 1 (Some 0) slot_0
 
 vote7 : requested n7 slots claim_of_nothing 3 6 2 ≡ answered n7 ClaimsNothing
 unfolding with_records with_clock with_current with_voted fresh_node cases_node granted voter requested claim_of_nothing slots first_from
@@ -253,7 +251,7 @@ vote7 = refl
 
 vote8 : requested (arrived_at q8 n7) slots claim_of_slot16383 3 6 2 ≡ answered n8 Granted
 unfolding with_records with_clock with_current with_voted fresh_node cases_node granted voter claim_of_slot16383 slots first_from
-vote8 = settles (arrived_at q8 n7) claim_of_slot16383 3 6 2 Nothing (nothing_newer (arrived_at q8 n7) claim_of_slot16383 2 refl refl refl refl)
+vote8 = settles (arrived_at q8 n7) claim_of_slot16383 3 6 2 None (nothing_newer (arrived_at q8 n7) claim_of_slot16383 2 refl refl refl refl)
 
 -- ---- the rows, one after the other
 

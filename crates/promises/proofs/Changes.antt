@@ -1,4 +1,5 @@
 -- What each call changes: the laws of the chapters, on lines.
+use Rattle.std.specs.Prelude.{None, Option, Some}
 use mathlib.Core.Path.{◌≡◌, refl, sym, ap, subst, ◌∙◌}
 use mathlib.Core.Logic.{◌⊎◌, inl, inr}
 use mathlib.Core.Bool.{Bool, true, false, cond}
@@ -32,8 +33,6 @@ use Rattle.frames.specs.declared.Header.{Header}
 use Rattle.frames.specs.declared.Kind.{Kind}
 use Rattle.frames.specs.declared.Kind.TheVariants.{Heartbeat, Report, Fail, Request, Ack, Probe, Tick}
 use Rattle.frames.specs.declared.Frame.{Frame}
-use Rattle.frames.specs.declared.Decoded.{Decoded}
-use Rattle.frames.specs.declared.Decoded.TheVariants.{NotAFrame, Good}
 use Rattle.frames.proofs.OneLine.{one_line}
 use Rattle.refusals.specs.Refusals.{is_beyond, frame_refusals, refusals, turns_away}
 use Rattle.refusals.proofs.Admitted.{Admitted, admitted, all_turn_away}
@@ -201,14 +200,14 @@ module _ (n : Node) (slots reports bitmap : List ℕ) (h : Header) where
 -- ---- a line
 
 -- what a line's frame carries
-fits : (line : List ℕ) (f : Frame) → frame_of line ≡ Good f → Fits f (bitmap_of line)
+fits : (line : List ℕ) (f : Frame) → frame_of line ≡ Some f → Fits f (bitmap_of line)
 fits line f e = by (one_line.written_back line)
   where
-    by : (frame_of line ≡ NotAFrame) ⊎ ((g : Frame) × (frame_of line ≡ Good g) × Fits g (bitmap_of line) × (encode g (bitmap_of line) ≡ line)) → Fits f (bitmap_of line)
+    by : (frame_of line ≡ None) ⊎ ((g : Frame) × (frame_of line ≡ Some g) × Fits g (bitmap_of line) × (encode g (bitmap_of line) ≡ line)) → Fits f (bitmap_of line)
     by (inl q) = let z : ◌≡◌ {A = ℕ} 0 1 = cc in absurd (omega arith)
     by (inr x) = let q : x.0 ≡ f = cc in subst (λ (g : Frame). Fits g (bitmap_of line)) q x.2
 
-no_frame : (n : Node) (slots reports : ℕ) → ((a : ℕ) → test_for a (refusals n slots reports NotAFrame) ≡ false) → ⊥
+no_frame : (n : Node) (slots reports : ℕ) → ((a : ℕ) → test_for a (refusals n slots reports None) ≡ false) → ⊥
 unfolding refusals frame_refusals
 no_frame n slots reports p = never (p 2)
 
@@ -218,9 +217,9 @@ what_a_line_changes n slots reports line =
     past (λ (x : Stepped). (T (turns_away x.outcome.answer) → ⊥) → FrameChanges n slots reports x (bitmap_of line) (frame_of line)) turns_away (turned_away n slots reports) (refusals n (length slots) (length reports) (frame_of line)) (taken_in n slots reports (bitmap_of line) (frame_of line))
     (all_turn_away n (length slots) (length reports) (frame_of line)) (λ a q d. absurd (d (rw q tt))) (λ p d. go (frame_of line) refl p)
   where
-    go : (d : Decoded) → frame_of line ≡ d → ((a : ℕ) → test_for a (refusals n (length slots) (length reports) d) ≡ false) → FrameChanges n slots reports (taken_in n slots reports (bitmap_of line) d) (bitmap_of line) d
-    go NotAFrame e p = absurd (no_frame n (length slots) (length reports) p)
-    go (Good f) e p = kind_changes n slots reports (bitmap_of line) f.header f.kind (admitted n (length slots) (length reports) f p) (fits line f e).1
+    go : (d : Option Frame) → frame_of line ≡ d → ((a : ℕ) → test_for a (refusals n (length slots) (length reports) d) ≡ false) → FrameChanges n slots reports (taken_in n slots reports (bitmap_of line) d) (bitmap_of line) d
+    go None e p = absurd (no_frame n (length slots) (length reports) p)
+    go (Some f) e p = kind_changes n slots reports (bitmap_of line) f.header f.kind (admitted n (length slots) (length reports) f p) (fits line f e).1
 
 -- ---- an opening, and marks
 

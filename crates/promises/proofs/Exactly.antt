@@ -1,5 +1,6 @@
 -- A line is answered 10 exactly when it is a request whose conditions hold, a slot passes exactly when the frame beats its
 -- owner or a win takes it, and the answers of a heartbeat and of a win count what changed.
+use Rattle.std.specs.Prelude.{None, Option, Some}
 use mathlib.Core.Path.{◌≡◌, refl, sym, ap, subst, ◌∙◌}
 use mathlib.Core.Bool.{Bool, true, false, not, cond}
 use mathlib.Core.List.{List, [], ◌∷◌}
@@ -30,8 +31,6 @@ use Rattle.frames.specs.declared.Header.{Header}
 use Rattle.frames.specs.declared.Kind.{Kind}
 use Rattle.frames.specs.declared.Kind.TheVariants.{Heartbeat, Report, Fail, Request, Ack, Probe, Tick}
 use Rattle.frames.specs.declared.Frame.{Frame}
-use Rattle.frames.specs.declared.Decoded.{Decoded}
-use Rattle.frames.specs.declared.Decoded.TheVariants.{NotAFrame, Good}
 use Rattle.refusals.specs.Refusals.{refusals, turns_away}
 use Rattle.refusals.proofs.Admitted.{Admitted, slots_whole, admitted, passes, all_turn_away}
 use Rattle.records.specs.Known.{known_configs}
@@ -95,7 +94,7 @@ kind_ten n slots reports bitmap h (Probe subject echo) e = absurd (omega (arith,
 kind_ten n slots reports bitmap h Tick e = absurd (omega (arith, e))
 
 module _ (n : Node) (slots reports line : List ℕ) where
-  abbrev rows : Decoded → List (Bool × Answer)
+  abbrev rows : Option Frame → List (Bool × Answer)
   rows d = refusals n (length slots) (length reports) d
 
   ten : answer_to n slots reports line ≡ 10 → GrantableLine n slots reports line
@@ -104,15 +103,15 @@ module _ (n : Node) (slots reports line : List ℕ) where
       past (λ (x : Stepped). number x.outcome.answer ≡ 10 → GrantableLine n slots reports line) turns_away (turned_away n slots reports) (rows (frame_of line)) (taken_in n slots reports (bitmap_of line) (frame_of line))
       (all_turn_away n (length slots) (length reports) (frame_of line)) (λ a q e. absurd (omega (arith, e, to_eight a q))) (go (frame_of line) refl)
     where
-      go : (d : Decoded) → frame_of line ≡ d → ((a : ℕ) → test_for a (rows d) ≡ false) → number (taken_in n slots reports (bitmap_of line) d).outcome.answer ≡ 10 → GrantableLine n slots reports line
-      go NotAFrame q p e = absurd (omega (arith, e))
-      go (Good f) q p e =
+      go : (d : Option Frame) → frame_of line ≡ d → ((a : ℕ) → test_for a (rows d) ≡ false) → number (taken_in n slots reports (bitmap_of line) d).outcome.answer ≡ 10 → GrantableLine n slots reports line
+      go None q p e = absurd (omega (arith, e))
+      go (Some f) q p e =
           let m = arrived f.header.time f.header.epoch n in
           let a = kind_ten m slots reports (bitmap_of line) f.header f.kind e in
           record {
             header = f.header;
             candidate = a.candidate;
-            request = q ∙ ap (λ (k : Kind). Good (record { header = f.header; kind = k })) a.request;
+            request = q ∙ ap (λ (k : Kind). Some (record { header = f.header; kind = k })) a.request;
             passes = rw q (passes n (length slots) (length reports) f (admitted n (length slots) (length reports) f p));
             conditions = (granted_exactly m slots (bitmap_of line) a.candidate f.header.epoch f.header.config).0 a.answer;
           }
@@ -131,17 +130,17 @@ module _ (n : Node) (slots reports line : List ℕ) where
 
 -- its frame is admitted, and done
 module _ (n : Node) (slots reports bitmap : List ℕ) (f : Frame) where
-  abbrev stepped : Decoded → Stepped
+  abbrev stepped : Option Frame → Stepped
   stepped d = checked (turned_away n slots reports) (refusals n (length slots) (length reports) d) (taken_in n slots reports bitmap d)
 
   pub record Taken (x : Stepped) : Type 0 where
     pub goes_in : Admitted n (length slots) (length reports) f
     pub step : x ≡ taken n slots reports bitmap f
 
-  good_taken : (turns_away (stepped (Good f)).outcome.answer ≡ true → ⊥) → Taken (stepped (Good f))
+  good_taken : (turns_away (stepped (Some f)).outcome.answer ≡ true → ⊥) → Taken (stepped (Some f))
   good_taken =
-      past (λ (x : Stepped). (turns_away x.outcome.answer ≡ true → ⊥) → Taken x) turns_away (turned_away n slots reports) (refusals n (length slots) (length reports) (Good f)) (taken_in n slots reports bitmap (Good f))
-      (all_turn_away n (length slots) (length reports) (Good f)) (λ a q e. absurd (e q))
+      past (λ (x : Stepped). (turns_away x.outcome.answer ≡ true → ⊥) → Taken x) turns_away (turned_away n slots reports) (refusals n (length slots) (length reports) (Some f)) (taken_in n slots reports bitmap (Some f))
+      (all_turn_away n (length slots) (length reports) (Some f)) (λ a q e. absurd (e q))
       (λ p e. record { goes_in = admitted n (length slots) (length reports) f p; step = refl })
 
 module _ (n : Node) (slots reports line : List ℕ) (h : Header) (k : Kind) (q : Reads n slots reports line h k) where
@@ -152,7 +151,7 @@ module _ (n : Node) (slots reports line : List ℕ) (h : Header) (k : Kind) (q :
   unfolding on_frame
   line_taken a =
       let f : Frame = record { header = h; kind = k } in
-      let on : on_frame n slots reports line ≡ stepped n slots reports (bitmap_of line) f (Good f) = ap (stepped n slots reports (bitmap_of line) f) q in
+      let on : on_frame n slots reports line ≡ stepped n slots reports (bitmap_of line) f (Some f) = ap (stepped n slots reports (bitmap_of line) f) q in
       subst (Taken n slots reports (bitmap_of line) f) (sym on) (good_taken n slots reports (bitmap_of line) f (λ e. a (ap (λ (x : Stepped). turns_away x.outcome.answer) on ∙ e)))
 
   zero_taken : answer_to n slots reports line ≡ 0 → LineTaken

@@ -1,4 +1,5 @@
 -- What turns a call away changes nothing.
+use Rattle.std.specs.Prelude.{None, Option, Some}
 use mathlib.Core.Path.{◌≡◌, refl}
 use mathlib.Core.Bool.{Bool, true, false, cond, not}
 use mathlib.Core.List.{List}
@@ -7,8 +8,6 @@ use lib.Dec.{T}
 use lib.ListN.{length}
 use borrow.Author.Tests.{not-true}
 use Rattle.tables.specs.Lists.{first_at}
-use Rattle.tables.specs.declared.Found.{Found}
-use Rattle.tables.specs.declared.Found.TheVariants.{Nothing, At}
 use Rattle.nodesets.specs.NodeSets.{added, majority}
 use Rattle.answers.specs.declared.Answer.{Answer}
 use Rattle.answers.specs.declared.Answer.TheVariants.{Done}
@@ -21,13 +20,10 @@ use Rattle.state.specs.declared.Outcome.{Outcome}
 use Rattle.state.specs.declared.Role.{Role}
 use Rattle.state.specs.declared.Role.TheVariants.{Master, Replica}
 use Rattle.state.specs.declared.Election.{Election}
-use Rattle.state.specs.declared.Election.TheVariants.{Closed, Open}
 use Rattle.frames.specs.Frames.{frame_of, bitmap_of}
 use Rattle.frames.specs.declared.Header.{Header}
 use Rattle.frames.specs.declared.Kind.{Kind}
 use Rattle.frames.specs.declared.Kind.TheVariants.{Heartbeat, Report, Fail, Request, Ack, Probe, Tick}
-use Rattle.frames.specs.declared.Decoded.{Decoded}
-use Rattle.frames.specs.declared.Decoded.TheVariants.{NotAFrame, Good}
 use Rattle.refusals.specs.Refusals.{refusals, turns_away}
 use Rattle.refusals.proofs.Admitted.{all_turn_away}
 use Rattle.heartbeats.specs.Heartbeats.{heartbeat}
@@ -37,6 +33,8 @@ use Rattle.acks.specs.Acks.{ack_checks, won, counted, heard_in, acked}
 use Rattle.marks.proofs.Kept.{set_refused, clear_refused}
 use Rattle.kinds.specs.Kinds.{on_kind}
 use Rattle.node.specs.Step.{turned_away, taken_in, on_frame}
+use Rattle.frames.specs.declared.Frame.{Frame}
+use Rattle.state.specs.Node.{an_election}
 use Rattle.promises.specs.Refused.{Unchanged, TurnedAwayChangesNothing}
 
 -- the answers past the refusals are none of 1 to 8
@@ -62,21 +60,21 @@ module _ (n : Node) where
       past (λ (o : Outcome). Passes o.answer) lets_pass (answered n) (request_checks n slots role bitmap epoch) (by_owners n (followed role) epoch (first_at (newer n bitmap config) slots)) refl
       let_pass (λ p. last (first_at (newer n bitmap config) slots))
     where
-      last : (f : Found) → Passes (by_owners n (followed (role_at n candidate)) epoch f).answer
-      last Nothing t = t
-      last (At slot) t = t
+      last : (f : Option ℕ) → Passes (by_owners n (followed (role_at n candidate)) epoch f).answer
+      last None t = t
+      last (Some slot) t = t
 
   ack_passes : (slots : List ℕ) (voter candidate epoch : ℕ) → Passes (acked n slots voter candidate epoch).outcome.answer
   unfolding acked
   ack_passes slots voter candidate epoch = go n.election
     where
-      go : (x : Election) → Passes (heard_in n slots voter candidate epoch x).outcome.answer
-      go Closed = λ t. t
-      go (Open running opened voters heard) =
-          past (λ (o : Slotted). Passes o.outcome.answer) lets_pass (λ (a : Answer). record { outcome = answered n a; slots = slots }) (ack_checks n voter candidate epoch running opened voters heard)
-          (counted n slots running opened voters (added heard voter)) refl let_pass (λ p. last (majority voters (added heard voter)))
+      go : (x : Option Election) → Passes (heard_in n slots voter candidate epoch x).outcome.answer
+      go None = λ t. t
+      go (Some e) =
+          past (λ (o : Slotted). Passes o.outcome.answer) lets_pass (λ (a : Answer). record { outcome = answered n a; slots = slots }) (ack_checks n voter candidate epoch e.epoch e.opened e.voters e.heard)
+          (counted n slots e.epoch e.opened e.voters (added e.heard voter)) refl let_pass (λ p. last (majority e.voters (added e.heard voter)))
         where
-          last : (b : Bool) → Passes (cond b (won n slots running) (record { outcome = answered (with_election (Open running opened voters (added heard voter)) n) Done; slots = slots })).outcome.answer
+          last : (b : Bool) → Passes (cond b (won n slots e.epoch) (record { outcome = answered (with_election (an_election e.epoch e.opened e.voters (added e.heard voter)) n) Done; slots = slots })).outcome.answer
           last true t = t
           last false t = t
 
@@ -93,9 +91,9 @@ module _ (n : Node) where
 unchanged : (n : Node) (slots reports : List ℕ) (a : Answer) → Unchanged n slots reports (turned_away n slots reports a)
 unchanged n slots reports a = record { node = refl; slots_kept = refl; reports_kept = refl }
 
-taken_unchanged : (n : Node) (slots reports bitmap : List ℕ) (d : Decoded) → T (turns_away (taken_in n slots reports bitmap d).outcome.answer) → Unchanged n slots reports (taken_in n slots reports bitmap d)
-taken_unchanged n slots reports bitmap NotAFrame t = unchanged n slots reports _
-taken_unchanged n slots reports bitmap (Good f) t = absurd (kind_passes (arrived f.header.time f.header.epoch n) slots reports bitmap f.header f.kind t)
+taken_unchanged : (n : Node) (slots reports bitmap : List ℕ) (d : Option Frame) → T (turns_away (taken_in n slots reports bitmap d).outcome.answer) → Unchanged n slots reports (taken_in n slots reports bitmap d)
+taken_unchanged n slots reports bitmap None t = unchanged n slots reports _
+taken_unchanged n slots reports bitmap (Some f) t = absurd (kind_passes (arrived f.header.time f.header.epoch n) slots reports bitmap f.header f.kind t)
 
 line_unchanged : (n : Node) (slots reports line : List ℕ) → T (turns_away (on_frame n slots reports line).outcome.answer) → Unchanged n slots reports (on_frame n slots reports line)
 unfolding on_frame

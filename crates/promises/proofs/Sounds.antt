@@ -1,4 +1,5 @@
 -- Every call keeps a sound state sound; an unsound one is answered 7 or 1, and stays.
+use Rattle.std.specs.Prelude.{None, Option, Some}
 use mathlib.Core.Path.{◌≡◌, refl, sym}
 use mathlib.Core.Logic.{◌⊎◌, inl, inr}
 use mathlib.Core.Bool.{Bool, true, false, cond, not}
@@ -26,8 +27,6 @@ use Rattle.frames.specs.declared.Header.{Header}
 use Rattle.frames.specs.declared.Kind.{Kind}
 use Rattle.frames.specs.declared.Kind.TheVariants.{Heartbeat, Report, Fail, Request, Ack, Probe, Tick}
 use Rattle.frames.specs.declared.Frame.{Frame}
-use Rattle.frames.specs.declared.Decoded.{Decoded}
-use Rattle.frames.specs.declared.Decoded.TheVariants.{NotAFrame, Good}
 use Rattle.refusals.specs.Refusals.{refusals, frame_refusals, both_long, is_unlisted, follows_itself, names_this_node, turns_away}
 use Rattle.refusals.proofs.Admitted.{Admitted, admitted, arrives, config_within, all_turn_away}
 use Rattle.probes.proofs.Sound.{probed_sound, ticked_sound}
@@ -111,9 +110,9 @@ frame_sound n slots reports line s =
     past (λ (x : Stepped). sound x.outcome.node ≡ true) turns_away (turned_away n slots reports) (refusals n (length slots) (length reports) (frame_of line)) (taken_in n slots reports (bitmap_of line) (frame_of line))
     (all_turn_away n (length slots) (length reports) (frame_of line)) (λ a q. s) (go (frame_of line))
   where
-    go : (d : Decoded) → ((a : ℕ) → test_for a (refusals n (length slots) (length reports) d) ≡ false) → sound (taken_in n slots reports (bitmap_of line) d).outcome.node ≡ true
-    go NotAFrame p = s
-    go (Good f) p = kind_sound n slots reports (bitmap_of line) f.header f.kind (admitted n (length slots) (length reports) f p)
+    go : (d : Option Frame) → ((a : ℕ) → test_for a (refusals n (length slots) (length reports) d) ≡ false) → sound (taken_in n slots reports (bitmap_of line) d).outcome.node ≡ true
+    go None p = s
+    go (Some f) p = kind_sound n slots reports (bitmap_of line) f.header f.kind (admitted n (length slots) (length reports) f p)
 
 pub every_call_keeps_sound : (n : Node) (t : Tables) (c : Call) → EveryCallKeepsSound n t c
 every_call_keeps_sound n t (calls.frame line) h = frame_sound n t.slots t.reports line h

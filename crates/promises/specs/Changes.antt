@@ -1,5 +1,5 @@
 -- Demand 1, its second half: what a call that is not turned away changes, by kind. What is not named stays.
-use Rattle.std.specs.Prelude.{◌≡◌, Bool, true, false, List, ℕ, ◌+◌, ◌<◌, T, length, set}
+use Rattle.std.specs.Prelude.{◌≡◌, Bool, true, false, List, ℕ, ◌+◌, ◌<◌, T, length, set, None, Option, Some}
 use Rattle.tables.specs.Checks.{all_of}
 use Rattle.nodesets.specs.NodeSets.{added}
 use Rattle.nodesets.specs.declared.NodeSet.{NodeSet}
@@ -11,10 +11,8 @@ use Rattle.state.specs.Changes.{with_config, with_ping, with_flag, with_records,
 use Rattle.state.specs.Outcomes.{Stepped}
 use Rattle.state.specs.declared.Node.{Node}
 use Rattle.state.specs.declared.Role.{Role}
-use Rattle.state.specs.declared.Moment.TheVariants.{Never}
 use Rattle.state.specs.declared.Verdict.{Verdict}
 use Rattle.state.specs.declared.Verdict.TheVariants as verdict
-use Rattle.state.specs.declared.Election.TheVariants.{Open}
 use Rattle.state.specs.declared.Echo.{Echo}
 use Rattle.state.specs.declared.Echo.TheVariants.{Ping, Pong}
 use Rattle.state.specs.declared.Move.{Move}
@@ -22,8 +20,6 @@ use Rattle.frames.specs.Frames.{frame_of, bitmap_of}
 use Rattle.frames.specs.declared.Header.{Header}
 use Rattle.frames.specs.declared.Kind.{Kind}
 use Rattle.frames.specs.declared.Kind.TheVariants.{Heartbeat, Report, Fail, Request, Ack, Probe, Tick}
-use Rattle.frames.specs.declared.Decoded.{Decoded}
-use Rattle.frames.specs.declared.Decoded.TheVariants.{NotAFrame, Good}
 use Rattle.refusals.specs.Refusals.{turns_away}
 use Rattle.failure.specs.Failure.{report_at, flag_if_signalled}
 use Rattle.failure.specs.Keeps.{FlagsOnly}
@@ -36,6 +32,8 @@ use Rattle.acks.specs.Acks.{promoted, passing}
 use Rattle.marks.specs.Marks.{ButMarks}
 use Rattle.marks.specs.MarkChanges.{set_mark, clear_mark, marking, unmarking}
 use Rattle.node.specs.Step.{on_frame}
+use Rattle.frames.specs.declared.Frame.{Frame}
+use Rattle.state.specs.Node.{an_election}
 use Rattle.promises.specs.Claims.{slots_after}
 
 -- both tables stay
@@ -105,7 +103,7 @@ module _ (n : Node) (slots reports : List ℕ) (s : Stepped) (h : Header) where
   -- probe: the subject's ping, and at a pong its flag
   abbrev pub probed_on : ℕ → Echo → Node
   probed_on subject Ping = on_record subject (λ r. with_ping (started h.time r.ping) r) later
-  probed_on subject Pong = on_record subject (λ r. with_ping Never (with_flag (pong_flag later slots subject r.role r.flag) r)) later
+  probed_on subject Pong = on_record subject (λ r. with_ping None (with_flag (pong_flag later slots subject r.role r.flag) r)) later
 
   pub record ProbeChanges (subject : ℕ) (echo : Echo) : Type 0 where
     pub node : after ≡ probed_on subject echo
@@ -128,8 +126,8 @@ module _ (n : Node) (slots reports : List ℕ) (s : Stepped) (h : Header) where
     pub opened : ℕ
     pub voters : NodeSet
     pub heard : NodeSet
-    pub running : n.election ≡ Open h.epoch opened voters heard
-    pub node : after ≡ with_election (Open h.epoch opened voters (added heard voter)) arrival
+    pub running : n.election ≡ an_election h.epoch opened voters heard
+    pub node : after ≡ with_election (an_election h.epoch opened voters (added heard voter)) arrival
     pub slots_kept : s.slots ≡ slots
 
   -- the election is won: this node is a master with the ack's epoch, and the election is closed, whether slots pass or not; the
@@ -157,9 +155,9 @@ module _ (n : Node) (slots reports : List ℕ) (s : Stepped) (h : Header) where
   KindChanges bitmap Tick = TickChanges
 
 -- one that is no frame is turned away
-abbrev pub FrameChanges : Node → List ℕ → List ℕ → Stepped → List ℕ → Decoded → Type 0
-FrameChanges n slots reports s bitmap NotAFrame = ⊥
-FrameChanges n slots reports s bitmap (Good f) = KindChanges n slots reports s f.header bitmap f.kind
+abbrev pub FrameChanges : Node → List ℕ → List ℕ → Stepped → List ℕ → Option Frame → Type 0
+FrameChanges n slots reports s bitmap None = ⊥
+FrameChanges n slots reports s bitmap (Some f) = KindChanges n slots reports s f.header bitmap f.kind
 
 -- a line that is not turned away, by its kind
 abbrev pub LineChanges : Node → List ℕ → List ℕ → List ℕ → Type 0

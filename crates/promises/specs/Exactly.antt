@@ -1,10 +1,9 @@
 -- Demand 2 on lines: when a line is answered 10, when a slot passes by a claim or by a win, and what the answers say of it.
-use Rattle.std.specs.Prelude.{◌≡◌, true, false, not, List, ℕ, ◌≤◌, ◌<◌, length, get_or}
+use Rattle.std.specs.Prelude.{◌≡◌, true, false, not, List, ℕ, ◌≤◌, ◌<◌, length, get_or, Some}
 use Rattle.tables.specs.Sizes.{slot_count}
 use Rattle.tables.specs.Lists.{first_at, changed_from}
 use Rattle.tables.specs.Sets.{claimed}
 use Rattle.answers.specs.Answers.{counts, passed, Said, said, number}
-use Rattle.answers.specs.declared.Check.TheVariants.{Passed}
 use Rattle.state.specs.Node.{record_at, role_at, listed}
 use Rattle.state.specs.Changes.{arrived}
 use Rattle.state.specs.declared.Node.{Node}
@@ -14,10 +13,10 @@ use Rattle.frames.specs.Frames.{frame_of, bitmap_of}
 use Rattle.frames.specs.declared.Header.{Header}
 use Rattle.frames.specs.declared.Kind.{Kind}
 use Rattle.frames.specs.declared.Kind.TheVariants.{Heartbeat, Request, Ack}
-use Rattle.frames.specs.declared.Decoded.TheVariants.{Good}
 use Rattle.refusals.specs.Refusals.{refusal}
 use Rattle.votes.specs.Grants.{Grantable}
 use Rattle.node.specs.Step.{on_frame}
+use Rattle.answers.specs.Refusing.{cleared}
 use Rattle.promises.specs.Claims.{stale_at}
 
 module _ (n : Node) (slots reports line : List ℕ) where
@@ -30,14 +29,14 @@ module _ (n : Node) (slots reports line : List ℕ) where
 
   -- the line is a frame of that kind with that time and those epochs
   abbrev pub Reads : Header → Kind → Type 0
-  Reads h kind = frame_of line ≡ Good (record { header = h; kind = kind })
+  Reads h kind = frame_of line ≡ Some (record { header = h; kind = kind })
 
   -- a vote request that none of 1 to 8 turns away, and whose conditions hold with clock and currentEpoch risen
   pub record GrantableLine : Type 0 where
     pub header : Header
     pub candidate : ℕ
     pub request : Reads header (Request candidate)
-    pub passes : refusal n (length slots) (length reports) (frame_of line) ≡ Passed
+    pub passes : refusal n (length slots) (length reports) (frame_of line) ≡ cleared
     pub conditions : Grantable (arrived header.time header.epoch n) slots (bitmap_of line) candidate header.epoch header.config
 
   -- such a line is answered 10, and no other

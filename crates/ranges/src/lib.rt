@@ -4,16 +4,16 @@
 ghost use Rattle.std.specs.Prelude.{◌≡◌};
 ghost use Rattle.ranges.specs.Ranges.{ranges};
 
-use answers::{Answer, Check};
+use answers::Answer;
 use state::Node;
 
 // First slot, last slot and owner of each range, in ascending order, three numbers each from the list's front on.
+#[tactic(auto, using(answers::proofs::Checks::by_check), unfolding(crate::specs::Ranges::ranges))]
 pub fn ranges(node: Node, slots: &[u16], list: &mut [u16]) -> Answer
     ensures { record { answer = result; list = list.new } ≡ ranges node slots.now list.old }
 {
-    let check = entry::checks(node, slots.len() == tables::SLOTS as usize);
-    match check {
-        Check::Refused(refusal) => refusal,
-        Check::Passed => listing::list(slots, node.size, list),
+    if let Err(refusal) = entry::checks(node, slots.len() == usize::from(tables::SLOTS)) {
+        return refusal;
     }
+    listing::list(slots, node.size, list)
 }

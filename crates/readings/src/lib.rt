@@ -24,7 +24,7 @@ pub extern "C" fn ukweribaso_claim(
     digests::of_tally(ownership::claim(slots, bitmap, configs, size, sender, config))
 }
 
-// The same with every bit read in turn, for callers that hold the two readings against each other.
+// The same with every bit read in turn, for callers that hold the two readings against each other: to C it is a name of its own.
 #[unsafe(no_mangle)]
 pub extern "C" fn ukweribaso_claim_plain(
     slots: &mut [u16],

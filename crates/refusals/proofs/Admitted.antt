@@ -1,5 +1,6 @@
 -- What a frame that none of the checks refused has: `admitted` for who goes through them, `admits` and `passes` for who knows
 -- what they came to.
+use Rattle.std.specs.Prelude.{Err, None, Option, Some}
 use mathlib.Core.Path.{◌≡◌, refl}
 use mathlib.Core.Bool.{Bool, true, false}
 use mathlib.Core.List.{List, [], ◌∷◌}
@@ -9,7 +10,6 @@ use borrow.Author.Tests.{eqb-true, not-false, ltb-false, leb-false}
 use Rattle.tables.specs.Sizes.{slot_count, report_count, top, time_end}
 use Rattle.tables.specs.Checks.{checked}
 use Rattle.tables.proofs.Checks.{none, part}
-use Rattle.answers.specs.declared.Check.TheVariants.{Passed, Refused}
 use Rattle.answers.proofs.Checks.{on_check, test_for, refusals_pass, unrefused, in_two}
 use Rattle.state.specs.Changes.{arrived}
 use Rattle.state.specs.declared.Node.{Node}
@@ -17,8 +17,7 @@ use Rattle.entry.specs.Entry.{entry_checks}
 use Rattle.soundness.specs.Sound.{sound}
 use Rattle.soundness.proofs.Kept.{arrived_sound}
 use Rattle.frames.specs.declared.Frame.{Frame}
-use Rattle.frames.specs.declared.Decoded.{Decoded}
-use Rattle.frames.specs.declared.Decoded.TheVariants.{NotAFrame, Good}
+use Rattle.answers.specs.Refusing.{cleared}
 use Rattle.refusals.specs.Refusals.{is_unlisted, follows_itself, names_this_node, is_beyond, frame_refusals, both_long, refusals, turns_away, frame_refusal, refusal}
 
 pub record Admitted (n : Node) (slots reports : ℕ) (f : Frame) : Type 0 where
@@ -35,7 +34,7 @@ pub slots_whole : (slots reports : ℕ) → both_long slots reports ≡ true →
 slots_whole slots reports h = eqb-true slots slot_count (part 0 (eqb slots slot_count ∷ eqb reports report_count ∷ []) h)
 
 module _ (n : Node) (slots reports : ℕ) where
-  pub admitted : (f : Frame) → ((a : ℕ) → test_for a (refusals n slots reports (Good f)) ≡ false) → Admitted n slots reports f
+  pub admitted : (f : Frame) → ((a : ℕ) → test_for a (refusals n slots reports (Some f)) ≡ false) → Admitted n slots reports f
   unfolding refusals frame_refusals
   admitted f t = record {
     lengths = not-false _ (t 1);
@@ -47,23 +46,23 @@ module _ (n : Node) (slots reports : ℕ) where
     not_before = t 4;
   }
 
-  pub admits : (f : Frame) → refusal n slots reports (Good f) ≡ Passed → Admitted n slots reports f
-  admits f e = admitted f (λ a. unrefused a (refusals n slots reports (Good f)) e)
+  pub admits : (f : Frame) → refusal n slots reports (Some f) ≡ cleared → Admitted n slots reports f
+  admits f e = admitted f (λ a. unrefused a (refusals n slots reports (Some f)) e)
 
-  pub passes : (f : Frame) → Admitted n slots reports f → refusal n slots reports (Good f) ≡ Passed
+  pub passes : (f : Frame) → Admitted n slots reports f → refusal n slots reports (Some f) ≡ cleared
   unfolding refusals frame_refusals
   passes f h = simp (h.lengths, h.node_sound, h.all_listed, h.follows_another, h.not_this_node, h.within_bounds, h.not_before)
 
   -- 1 and 7 first, then the line's own
-  pub by_entry : (d : Decoded) → refusal n slots reports d ≡ on_check Refused (frame_refusal n d) (checked Refused (entry_checks (both_long slots reports) n) Passed)
+  pub by_entry : (d : Option Frame) → refusal n slots reports d ≡ on_check Err (frame_refusal n d) (checked Err (entry_checks (both_long slots reports) n) cleared)
   unfolding refusals
-  by_entry d = in_two Refused (entry_checks (both_long slots reports) n) (frame_refusals n d) Passed
+  by_entry d = in_two Err (entry_checks (both_long slots reports) n) (frame_refusals n d) cleared
 
   -- every answer of the checks is one of 1 to 8
-  pub all_turn_away : (d : Decoded) → refusals_pass turns_away (refusals n slots reports d) ≡ true
+  pub all_turn_away : (d : Option Frame) → refusals_pass turns_away (refusals n slots reports d) ≡ true
   unfolding refusals frame_refusals
-  all_turn_away NotAFrame = refl
-  all_turn_away (Good f) = refl
+  all_turn_away None = refl
+  all_turn_away (Some f) = refl
 
 module _ (n : Node) (slots reports : ℕ) (f : Frame) (h : Admitted n slots reports f) where
   abbrev beyond : List Bool

@@ -2,81 +2,62 @@
 #![tactic(auto)]
 
 ghost use Rattle.std.specs.Prelude.{◌≡◌};
-ghost use Rattle.frames.specs.declared.Decoded.TheVariants.{Good};
 ghost use Rattle.refusals.specs.Refusals.{is_beyond, both_long, frame_refusal, refusal};
 
 use answers::{Answer, Check};
-use frames::{Decoded, Frame, Header};
+use frames::{Frame, Header};
 use state::Node;
 
 // 5
+#[tactic(auto, unfolding(crate::specs::Refusals::is_beyond))]
 fn is_beyond(header: Header) -> bool
     ensures { result ≡ is_beyond header }
 {
-    if tables::TOP < header.epoch {
-        return true;
-    }
-    if tables::TOP < header.config {
-        return true;
-    }
-    if header.epoch < header.config {
-        return true;
-    }
-    tables::TIME_END <= header.time
+    tables::TOP < header.epoch
+        || tables::TOP < header.config
+        || header.epoch < header.config
+        || tables::TIME_END <= header.time
 }
 
 // The checks on the frame itself, past 1, 7 and 2.
+#[tactic(auto, unfolding(crate::specs::Refusals::frame_refusals))]
 fn frame_refusal(node: Node, frame: Frame) -> Check
-    ensures { result ≡ frame_refusal node (Good frame) }
+    ensures { result ≡ frame_refusal node (Some frame) }
 {
-    let header = frame.header;
-    let kind = frame.kind;
-    let names = naming::named(kind);
-    let listed = names.listed;
-    if naming::some_past(node.size, listed) {
-        return Check::Refused(Answer::UnknownNode);
+    let names = naming::named(frame.kind);
+    if naming::some_past(node.size, names.listed) {
+        return Err(Answer::UnknownNode);
     }
-    let follower = names.follower;
-    if naming::same(follower) {
-        return Check::Refused(Answer::FollowsItself);
+    if naming::same(names.follower) {
+        return Err(Answer::FollowsItself);
     }
-    let others = names.others;
-    if naming::some_own(node.me, others) {
-        return Check::Refused(Answer::OwnNumber);
+    if naming::some_own(node.me, names.others) || naming::same(names.reporter) {
+        return Err(Answer::OwnNumber);
     }
-    let reporter = names.reporter;
-    if naming::same(reporter) {
-        return Check::Refused(Answer::OwnNumber);
+    if is_beyond(frame.header) {
+        return Err(Answer::OutOfBounds);
     }
-    if is_beyond(header) {
-        return Check::Refused(Answer::OutOfBounds);
+    if frame.header.time < node.clock {
+        return Err(Answer::BeforeClock);
     }
-    if header.time < node.clock {
-        return Check::Refused(Answer::BeforeClock);
-    }
-    Check::Passed
+    Ok(())
 }
 
 // Whether both tables lent have their lengths.
 fn both_long(slots: usize, reports: usize) -> bool
     ensures { result ≡ both_long slots reports }
 {
-    if slots != tables::SLOTS as usize {
-        return false;
-    }
-    reports == tables::REPORTS
+    slots == usize::from(tables::SLOTS) && reports == tables::REPORTS
 }
 
 // The first check that applies, by the lengths of the two tables lent, the node and what the line is.
-pub fn refusal(node: Node, slots: usize, reports: usize, line: Decoded) -> Check
+#[tactic(auto, using(crate::proofs::Admitted::by_entry), unfolding(crate::specs::Refusals::frame_refusals))]
+pub fn refusal(node: Node, slots: usize, reports: usize, line: Option<Frame>) -> Check
     ensures { result ≡ refusal node slots reports line }
 {
-    let check = entry::checks(node, both_long(slots, reports));
-    match check {
-        Check::Refused(answer) => Check::Refused(answer),
-        Check::Passed => match line {
-            Decoded::NotAFrame => Check::Refused(Answer::NotAFrame),
-            Decoded::Good(frame) => frame_refusal(node, frame),
-        },
-    }
+    entry::checks(node, both_long(slots, reports))?;
+    let Some(frame) = line else {
+        return Err(Answer::NotAFrame);
+    };
+    frame_refusal(node, frame)
 }

@@ -2,11 +2,10 @@
 // docs/REPLAY.md has the format. Each file is a run of its own; without a file the run is read from standard input.
 #![tactic(auto)]
 
-ghost use Rattle.std.specs.Prelude.{◌≡◌, ◌≤◌, ◌<◌, length};
-
 use acts::Done;
 use answers::Answer;
-use calls::Call;
+use calls::{Call, Form};
+use lines::Writer;
 use runs::Run;
 use seats::Seat;
 use sources::Source;
@@ -16,7 +15,7 @@ use std::fs::File;
 use std::io::Read;
 use std::os::fd::AsRawFd;
 use std::{io, str};
-use tellings::Told;
+use tellings::{Said, Told};
 
 // The most nodes of a roster.
 const ROOM: usize = runs::ROOM;
@@ -48,45 +47,34 @@ const PATH: usize = 4096;
 // ---- a line, done and told
 
 // The election that a call opened.
-fn opening(form: u8, answer: Answer, election: Election) -> Election {
-    if form != calls::OPEN {
-        return Election::Closed;
+fn opening(form: Form, said: Said, node: Node) -> Option<Election> {
+    match (form, said) {
+        (Form::Open, Said::Answered(Answer::Done)) => node.election,
+        _ => None,
     }
-    if answers::number(answer) != 0 {
-        return Election::Closed;
-    }
-    election
 }
 
 // What is told of node k, from the node before and after a line.
-fn telling(count: u64, k: usize, before: Node, done: Done, form: u8) -> Told {
-    let seat = done.seat;
-    let node = seat.node;
-    let answer = done.answer;
-    let said = done.said;
-    let known = seats::own(node);
-    let election = node.election;
+fn telling(count: u64, k: usize, before: Node, done: Done, form: Form) -> Told {
+    let node = done.seat.node;
     Told {
         line: count,
         node: k as u64,
-        said,
+        said: done.said,
         current: node.current,
         voted: node.voted,
-        config: known.config,
-        named: done.named as u64,
-        slots: done.slots,
-        answer,
-        election: opening(form, answer, election),
+        config: seats::own(node).config,
+        named: u64::from(done.named),
+        election: opening(form, done.said, node),
         before: seats::flags(before),
         after: seats::flags(node),
     }
 }
 
 // A listing, below its answer.
-fn put_listing(out: &mut [u8], at: usize, list: &[u16], answer: Answer) -> usize {
-    match answer {
-        Answer::Listed(count) => aloud::put_listing(out, at, b"  ", aloud::front(list, count)),
-        _ => at,
+fn put_listing(out: &mut Writer, list: &[u16], said: Said) {
+    if let Said::Answered(Answer::Listed(count)) = said {
+        aloud::put_listing(out, b"  ", aloud::front(list, count));
     }
 }
 
@@ -103,36 +91,21 @@ fn take_turn(
     slots: &mut [u16],
     reports: &mut [u64],
     list: &mut [u16],
-    out: &mut [u8],
+    out: &mut Writer,
     k: usize,
     source: Source,
     call: Call,
     run: Run,
-) -> Turn
-    requires { (length slots.old ≡ 262144) × (length reports.old ≡ 65536) }
-{
-    let s = k % ROOM * SLOTS;
-    let r = k % ROOM * REPORTS;
+) -> Turn {
     let kept = source.kept;
-    let bytes = kept.bytes;
-    let done = acts::act(
-        seat,
-        &mut slots[s..s + SLOTS],
-        &mut reports[r..r + REPORTS],
-        list,
-        k,
-        sources::characters(&bytes, kept.length),
-        call,
-        run.handed,
-    );
+    let line = sources::characters(&kept.bytes, kept.length);
+    let done = acts::act(seat, slots, reports, list, k, line, call, run.handed);
     let told = telling(source.count, k, seat.node, done, call.form);
-    let answer = done.answer;
-    let end = tellings::put_told(out, run.at, told);
-    let at = put_listing(out, end, list, answer);
-    let after = done.seat;
+    tellings::put_told(out, told);
+    put_listing(out, list, done.said);
     Turn {
-        seat: after,
-        run: runs::told(run, at, told, k, done.handed),
+        seat: done.seat,
+        run: runs::told(run, told, k, done.handed),
     }
 }
 
@@ -141,7 +114,6 @@ fn take_turn(
 // The call of a line; none where there is more to read.
 fn call_of(source: Source) -> Call {
     let kept = source.kept;
-    let bytes = kept.bytes;
     if source.ended {
         return runs::summary();
     }
@@ -151,30 +123,13 @@ fn call_of(source: Source) -> Call {
     if kept.length > scraps::ROOM {
         return calls::too_long();
     }
-    calls::read(sources::characters(&bytes, kept.length))
-}
-
-// A proved loop has to end, and nothing says that the input does, so it counts down from a number that no run uses up.
-fn fewer(turns: u64, source: Source) -> u64
-    requires { 0 < turns }
-    ensures { result < turns }
-{
-    if source.ended {
-        return 0;
-    }
-    turns - 1
-}
-
-// Each win of a run, behind all else that is told.
-fn finish(to: &impl Print, out: &mut [u8], run: Run) {
-    let wins = run.wins;
-    let end = tellings::put_wins(out, run.at, &wins, run.won);
-    lines::flush(to, out, end);
+    calls::read(sources::characters(&kept.bytes, kept.length))
 }
 
 // The lines of a run, and its summary. The nodes and their tables stand here, and each line takes out those that it is about; a
 // lookup goes over all of them, and changes the gateway's map and its epochs alone. The list is lent to each as it is: what is
-// read of it was written by the same line.
+// read of it was written by the same line. A proved loop has to end, and nothing says that the input does, so it counts up to a
+// number that no run comes to.
 fn play_lines<R: Read>(
     to: &impl Print,
     err: &impl Print,
@@ -184,38 +139,35 @@ fn play_lines<R: Read>(
     list: &mut [u16],
     map: &mut [u16],
     epochs: &mut [u64],
-    out: &mut [u8],
+    out: &mut Writer,
 ) {
     let mut slots = [tables::UNOWNED; ALL_SLOTS];
     let mut times = [0u64; ALL_REPORTS];
     let mut seats = [seats::newcomer(0, 0); ROOM];
     let mut run = runs::nobody();
     let mut source = begin;
-    let mut turns = u64::MAX;
-    while turns > 0 {
-        run.at = lines::drained(to, out, run.at, FULL);
+    for _ in 0..u64::MAX {
+        out.drain(to, FULL);
         source = sources::next_line(input, err, buf, source, run.handed);
-        turns = fewer(turns, source);
         let heard = runs::hear(call_of(source), source.count, run, out);
         let call = heard.call;
         run = heard.run;
-        let last = heard.last;
-        let mut k = heard.first;
-        while k < last {
-            let old = seats[k];
-            let turn = take_turn(old, &mut slots, &mut times, list, out, k, source, call, run);
-            let next = turn.seat;
-            seats[k] = next;
+        for k in heard.nodes {
+            let slots = &mut slots[k * SLOTS..(k + 1) * SLOTS];
+            let times = &mut times[k * REPORTS..(k + 1) * REPORTS];
+            let turn = take_turn(seats[k], slots, times, list, out, k, source, call, run);
+            seats[k] = turn.seat;
             run = turn.run;
-            k += 1;
         }
-        if call.form != calls::LOOKUP {
-            continue;
+        if call.form == Form::Lookup {
+            walks::look_up(map, epochs, run.size, seats, &slots, source, call, out);
         }
-        let at = run.at;
-        run.at = walks::look_up(map, epochs, run.size, seats, &slots, source, call, out, at);
+        if source.ended {
+            break;
+        }
     }
-    finish(to, out, run);
+    tellings::put_wins(out, &run.wins, run.won);
+    out.flush(to);
 }
 
 // A run. The list, the gateway's map, which has no entry yet, the epochs beside its entries, and the room for what is told stand
@@ -224,7 +176,11 @@ fn play<R: Read>(to: &impl Print, err: &impl Print, input: &mut R, begin: Source
     let mut list = [0u16; LIST];
     let mut map = [tables::UNOWNED; SLOTS];
     let mut epochs = [0u64; SLOTS];
-    let mut out = [0u8; TEXT];
+    let mut text = [0u8; TEXT];
+    let mut out = Writer {
+        bytes: &mut text,
+        end: 0,
+    };
     play_lines(
         to,
         err,
@@ -242,11 +198,11 @@ fn play<R: Read>(to: &impl Print, err: &impl Print, input: &mut R, begin: Source
 
 fn put_name(to: &impl Print, path: &[u8], first: bool) {
     if !first {
-        lines::flush(to, b"\n", 1);
+        let _ = to.write_all(b"\n");
     }
-    lines::flush(to, b"run ", 4);
-    lines::flush(to, path, path.len());
-    lines::flush(to, b"\n", 1);
+    let _ = to.write_all(b"run ");
+    let _ = to.write_all(path);
+    let _ = to.write_all(b"\n");
 }
 
 // Why an argument could not be taken over.
@@ -265,6 +221,13 @@ fn open(rt: &HostRuntime, path: &[u8]) -> io::Result<File> {
     }
 }
 
+// A file with what is read of it first.
+fn begun(rt: &HostRuntime, path: &[u8], buf: &mut [u8]) -> io::Result<(File, usize)> {
+    let mut file = open(rt, path)?;
+    let got = file.read(buf)?;
+    Ok((file, got))
+}
+
 // The run of the file that an argument names, under its name, with an empty line between it and the one before. A file that
 // cannot be read is named with the reason, and nothing else is said of it. Says whether a run is still the first.
 fn argument(rt: &HostRuntime, i: usize, first: bool) -> bool {
@@ -278,34 +241,26 @@ fn argument(rt: &HostRuntime, i: usize, first: bool) -> bool {
         }
     };
     let path = sources::part(&room, 0, length);
-    let mut file = match open(rt, path) {
-        Ok(file) => file,
-        Err(error) => {
-            lines::fail(&err, path, error);
-            return first;
-        }
-    };
     let mut buf = [0u8; PIECE];
-    let got = match file.read(&mut buf) {
-        Ok(got) => got,
+    match begun(rt, path, &mut buf) {
         Err(error) => {
             lines::fail(&err, path, error);
-            return first;
+            first
         }
-    };
-    put_name(rt, path, first);
-    let begin = sources::opened(file.as_raw_fd(), got);
-    play(rt, &err, &mut file, begin, &mut buf);
-    false
+        Ok((mut file, got)) => {
+            put_name(rt, path, first);
+            let begin = sources::opened(file.as_raw_fd(), got);
+            play(rt, &err, &mut file, begin, &mut buf);
+            false
+        }
+    }
 }
 
 fn main(rt: HostRuntime) {
     let count = lines::argument_count(&rt);
     let mut first = true;
-    let mut i: usize = 1;
-    while i < count {
+    for i in 1..count {
         first = argument(&rt, i, first);
-        i += 1;
     }
     if count < 2 {
         let begin = sources::opened(rt.stdin().as_raw_fd(), 0);

@@ -1,6 +1,6 @@
 -- A roster of any size for callers that time its frames: fresh, this node 1, T = 1000, nodes 3 and 4 replicas of 0 and the rest
 -- masters, as in the cases; some nodes from 2 on are PFAIL.
-use Rattle.std.specs.Prelude.{ℕ, ◌+◌, cond, ltb}
+use Rattle.std.specs.Prelude.{ℕ, ◌+◌, cond, ltb, Some}
 use Rattle.tables.specs.Below.{in_turn}
 use Rattle.tables.specs.Sizes.{node_room}
 use Rattle.cases.specs.Cases.{roles}
@@ -9,11 +9,10 @@ use Rattle.fresh.specs.Fresh.{ids_of, fresh_node}
 use Rattle.state.specs.declared.Node.{Node}
 use Rattle.state.specs.declared.Record.{Record}
 use Rattle.state.specs.declared.Flag.TheVariants.{Pfail}
-use Rattle.state.specs.declared.Moment.TheVariants.{At}
 
 -- PFAIL, and the ping that was sent at time 0 is pending
 abbrev pub silent : Record → Record
-silent known = with_ping (At 0) (with_flag Pfail known)
+silent known = with_ping (Some 0) (with_flag Pfail known)
 
 -- so many nodes from 2 on
 abbrev pub silenced_next : ℕ → Node → Node

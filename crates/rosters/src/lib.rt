@@ -4,42 +4,36 @@
 ghost use Rattle.std.specs.Prelude.{◌≡◌, ◌≤◌};
 ghost use Rattle.rosters.specs.Rosters.{silent, silenced, room, roster};
 
-use state::{Flag, Moment, Node, Record, Role};
+use state::{Flag, Node, Record, Role};
 
 // A node that has not answered the ping which was sent to it at time 0.
 fn silent(known: Record) -> Record
     ensures { result ≡ silent known }
 {
-    changes::with_ping(changes::with_flag(known, Flag::Pfail), Moment::At(0))
+    changes::with_ping(changes::with_flag(known, Flag::Pfail), Some(0))
 }
 
 // The nodes from 2 on are 62.
 fn room(count: u16) -> u16
     ensures { (result ≡ room count) × (result ≤ 62) }
 {
-    if count < 62 {
-        return count;
-    }
-    62
+    count.min(62)
 }
 
 // So many nodes from 2 on are silent.
 fn silence(node: Node, count: u16) -> Node
     ensures { result ≡ silenced (room count) node }
 {
-    let end = room(count);
     let mut next = node;
-    let mut k: u16 = 0;
-    while k < end {
-        let at = k as usize + 2;
-        let known = next.records[at];
-        next.records[at] = silent(known);
-        k += 1;
+    for k in 0..room(count) {
+        let at = usize::from(k) + 2;
+        next.records[at] = silent(next.records[at]);
     }
     next
 }
 
 // Node 1 of a roster of `size` nodes, of which so many are suspected.
+#[tactic(auto, unfolding(crate::specs::Rosters::roster))]
 pub fn roster(size: u16, suspected: u16) -> Node
     ensures { result ≡ roster size suspected }
 {

@@ -1,34 +1,33 @@
 -- What a caller learns from a redirection: which case it is, which is given exactly when, and what MOVED and ASK name.
+use Rattle.std.specs.Prelude.{Err, None, Ok, Option, Some}
 use mathlib.Core.Path.{◌≡◌, refl, sym, subst, ap, ◌∙◌}
 use mathlib.Core.Bool.{Bool, true, false, cond, not}
 use mathlib.Core.List.{List, [], ◌∷◌}
 use Prim.Native.Nat.{ℕ, ◌<◌}
 use lib.ListN.{length}
 use lib.Dec.{eqb, ltb}
-use borrow.Author.Tests.{ltb-true, eqb-true, ne_eqb, eqb-false, not-true, not-false}
+use borrow.Author.Tests.{ltb-true, eqb-true, eqb-false, not-true, not-false}
 use Rattle.tables.specs.Sizes.{slot_count}
 use Rattle.tables.specs.Checks.{checked, all_of}
 use Rattle.tables.proofs.Checks.{part}
 use Rattle.answers.specs.Answers.{number}
 use Rattle.answers.specs.declared.Answer.{Answer}
 use Rattle.answers.specs.declared.Answer.TheVariants as answer
-use Rattle.answers.specs.declared.Check.{Check}
-use Rattle.answers.specs.declared.Check.TheVariants.{Passed, Refused}
-use Rattle.answers.proofs.Checks.{on_check, by_check, past}
+use Rattle.answers.proofs.Checks.{on_check, by_check, unrefused, past}
 use Rattle.slots.specs.Key.{key_slot}
+use Rattle.slots.proofs.Slots.{key_slot_below}
 use Rattle.state.specs.Node.{listed, peer_of}
 use Rattle.state.specs.declared.Node.{Node}
 use Rattle.state.specs.declared.Move.{Move}
 use Rattle.state.specs.declared.Move.TheVariants.{Migrating, Importing}
 use Rattle.soundness.specs.Sound.{sound, mark_sound}
 use Rattle.entry.specs.Entry.{entry_checks}
-use Rattle.marks.specs.declared.Marking.{Marking}
-use Rattle.marks.specs.declared.Marking.TheVariants.{Unmarked, Moving}
 use Rattle.routing.specs.declared.Redirect.{Redirect}
 use Rattle.routing.specs.declared.Redirect.TheVariants.{WrongLength, Unsound, Down, Serve, Ask, Moved}
 use Rattle.marks.specs.Marks.{marks_of, marking_at, owner_at, is_own}
-use Rattle.routing.specs.Replies.{Reply, refused, down, serve, ask, moved, reply, is_entry, at_home, elsewhere, known_epoch, redirected, routed, is_taken, Exactly, MovedNames, AskNames, Redirections, ReplySettles}
+use Rattle.routing.specs.Replies.{Reply, refused, down, serve, ask, moved, reply, at_home, elsewhere, known_epoch, redirected, routed, is_taken, Exactly, MovedNames, AskNames, Redirections, ReplySettles}
 use Rattle.marks.proofs.Lists.{found_holds}
+use Rattle.answers.specs.Refusing.{Check, cleared}
 use Rattle.marks.proofs.Kept.{any, all_sound}
 
 -- ---- a reply tells the case and its values
@@ -55,14 +54,14 @@ reply_settles a b e = sym (case_of a) ∙ ap case e ∙ case_of b
 
 -- no check refused
 abbrev passes : Check → Bool
-passes Passed = true
-passes (Refused a) = false
+passes (Ok tt) = true
+passes (Err a) = false
 
-taken : (l : Bool) (n : Node) → passes (checked Refused (entry_checks l n) Passed) ≡ all_of (l ∷ sound n ∷ [])
+taken : (l : Bool) (n : Node) → passes (checked Err (entry_checks l n) cleared) ≡ all_of (l ∷ sound n ∷ [])
 taken false n = refl
 taken true n = by (sound n)
   where
-    by : (t : Bool) → passes (cond (not t) (Refused answer.Unsound) Passed) ≡ t
+    by : (t : Bool) → passes (cond (not t) (Err answer.Unsound) cleared) ≡ t
     by true = refl
     by false = refl
 
@@ -70,44 +69,61 @@ taken true n = by (sound n)
 abbrev sent : Reply → Check → Reply
 sent = on_check (λ a. refused (number a))
 
-by_cases : (c : Check) (owned own present asking : Bool) (marking : Marking) (s o e : ℕ)
+by_cases : (c : Check) (owned own present asking : Bool) (marking : Option Move) (s o e : ℕ)
     → Exactly (passes c) owned own present asking marking (sent (cond (not owned) down (cond own (at_home s present marking) (elsewhere s o e asking marking))) c)
-by_cases (Refused r) owned own p a m s o e = record { refused = refl; down = refl; ask = refl; moved = refl; serve = refl }
-by_cases Passed false own p a m s o e = record { refused = refl; down = refl; ask = refl; moved = refl; serve = refl }
-by_cases Passed true true p a Unmarked s o e = record { refused = refl; down = refl; ask = refl; moved = refl; serve = refl }
-by_cases Passed true true true a (Moving (Migrating q)) s o e = record { refused = refl; down = refl; ask = refl; moved = refl; serve = refl }
-by_cases Passed true true false a (Moving (Migrating q)) s o e = record { refused = refl; down = refl; ask = refl; moved = refl; serve = refl }
-by_cases Passed true true p a (Moving (Importing q)) s o e = record { refused = refl; down = refl; ask = refl; moved = refl; serve = refl }
-by_cases Passed true false p a Unmarked s o e = record { refused = refl; down = refl; ask = refl; moved = refl; serve = refl }
-by_cases Passed true false p a (Moving (Migrating q)) s o e = record { refused = refl; down = refl; ask = refl; moved = refl; serve = refl }
-by_cases Passed true false p true (Moving (Importing q)) s o e = record { refused = refl; down = refl; ask = refl; moved = refl; serve = refl }
-by_cases Passed true false p false (Moving (Importing q)) s o e = record { refused = refl; down = refl; ask = refl; moved = refl; serve = refl }
+by_cases (Err r) owned own p a m s o e = record { refused = refl; down = refl; ask = refl; moved = refl; serve = refl }
+by_cases (Ok tt) false own p a m s o e = record { refused = refl; down = refl; ask = refl; moved = refl; serve = refl }
+by_cases (Ok tt) true true p a None s o e = record { refused = refl; down = refl; ask = refl; moved = refl; serve = refl }
+by_cases (Ok tt) true true true a (Some (Migrating q)) s o e = record { refused = refl; down = refl; ask = refl; moved = refl; serve = refl }
+by_cases (Ok tt) true true false a (Some (Migrating q)) s o e = record { refused = refl; down = refl; ask = refl; moved = refl; serve = refl }
+by_cases (Ok tt) true true p a (Some (Importing q)) s o e = record { refused = refl; down = refl; ask = refl; moved = refl; serve = refl }
+by_cases (Ok tt) true false p a None s o e = record { refused = refl; down = refl; ask = refl; moved = refl; serve = refl }
+by_cases (Ok tt) true false p a (Some (Migrating q)) s o e = record { refused = refl; down = refl; ask = refl; moved = refl; serve = refl }
+by_cases (Ok tt) true false p true (Some (Importing q)) s o e = record { refused = refl; down = refl; ask = refl; moved = refl; serve = refl }
+by_cases (Ok tt) true false p false (Some (Importing q)) s o e = record { refused = refl; down = refl; ask = refl; moved = refl; serve = refl }
 
 exactly : (n : Node) (slots key : List ℕ) (present asking : Bool)
     → Exactly (is_taken n slots) (listed n (owner_at slots (key_slot key))) (is_own n slots (key_slot key)) present asking (marking_at n (key_slot key)) (routed n slots key present asking)
 unfolding routed
 exactly n slots key p a =
     let s = key_slot key in let o = owner_at slots s in let m = marking_at n s in let l = eqb (length slots) slot_count in
-    let rows = entry_checks l n in let c = checked Refused rows Passed in let rest = redirected n slots s p a in
+    let rows = entry_checks l n in let c = checked Err rows cleared in let rest = redirected n slots s p a in
     subst (λ (t : Bool). Exactly t (listed n o) (is_own n slots s) p a m (checked (λ b. refused (number b)) rows rest)) (taken l n)
     (subst (λ (r : Reply). Exactly (passes c) (listed n o) (is_own n slots s) p a m r) (sym (by_check (λ b. refused (number b)) rows rest)) (by_cases c (listed n o) (is_own n slots s) p a m s o (known_epoch n o)))
 
--- ---- a refusal is 1 or 7
+-- ---- a reply by what the checks came to
 
-abbrev Fits : Check → Type 0
-Fits Passed = Unit
-Fits (Refused a) = is_entry a ≡ true
+module _ (n : Node) (slots key : List ℕ) (present asking : Bool) where
+  abbrev checks : Check
+  checks = checked Err (entry_checks (eqb (length slots) slot_count) n) cleared
 
-pub entry_refusal : (l : Bool) (n : Node) (a : Answer) → checked Refused (entry_checks l n) Passed ≡ Refused a → is_entry a ≡ true
-entry_refusal l n a e = subst Fits e (past Fits is_entry Refused (entry_checks l n) Passed refl (λ b q. q) (λ f. tt))
+  told : (c : Check) → c ≡ checks → routed n slots key present asking ≡ sent (redirected n slots (key_slot key) present asking) c
+  unfolding routed
+  told c e = by_check (λ a. refused (number a)) (entry_checks (eqb (length slots) slot_count) n) _ ∙ ap (sent _) (sym e)
 
-pub one_or_seven : (a : Answer) → is_entry a ≡ true → (number a ≡ 1 → ⊥) → number a ≡ 7
-one_or_seven a h d = eqb-true (number a) 7 (rw (ne_eqb (number a) 1 d) at h)
+  pub told_wrong_length : (a : Answer) → a ≡ answer.WrongLength → Err a ≡ checks → refused 1 ≡ routed n slots key present asking
+  told_wrong_length a w e = sym (told (Err a) e ∙ rw w)
+
+  -- of the two checks it is the other one
+  other : (l t : Bool) (a : Answer) → ¬ (a ≡ answer.WrongLength) → Err a ≡ cond (not l) (Err answer.WrongLength) (cond (not t) (Err answer.Unsound) cleared) → a ≡ answer.Unsound
+  other false t a d e = absurd (d cc)
+  other true false a d e = cc
+  other true true a d e = cc
+
+  pub told_unsound : (a : Answer) → ¬ (a ≡ answer.WrongLength) → Err a ≡ checks → refused 7 ≡ routed n slots key present asking
+  told_unsound a d e = sym (told (Err a) e ∙ rw (other (eqb (length slots) slot_count) (sound n) a d e))
+
+  pub told_redirected : Ok tt ≡ checks → redirected n slots (key_slot key) present asking ≡ routed n slots key present asking
+  told_redirected e = sym (told (Ok tt) e)
+
+  -- past the checks the key's slot has an entry
+  pub slot_within : Ok tt ≡ checks → key_slot key < length slots
+  slot_within e = rw (eqb-true (length slots) slot_count (not-false _ (unrefused 1 (entry_checks (eqb (length slots) slot_count) n) (sym e)))) (key_slot_below key)
 
 -- ---- what MOVED and ASK name
 
 -- a mark's peer is another node of the roster
-peer_another : (n : Node) → sound n ≡ true → (s : ℕ) (m : Move) → marking_at n s ≡ Moving m → (peer_of m < n.size) × (peer_of m ≡ n.me → ⊥)
+peer_another : (n : Node) → sound n ≡ true → (s : ℕ) (m : Move) → marking_at n s ≡ Some m → (peer_of m < n.size) × (peer_of m ≡ n.me → ⊥)
 peer_another n h s m e =
     found_holds (λ (x : Move). (peer_of x < n.size) × (peer_of x ≡ n.me → ⊥)) (mark_sound n.size n.me) (λ x f.
     let q = peer_of x.movement in let l = ltb x.slot slot_count ∷ ltb q n.size ∷ not (eqb q n.me) ∷ [] in
@@ -127,18 +143,18 @@ module _ (n : Node) (slots key : List ℕ) where
   abbrev owner : ℕ
   owner = owner_at slots (key_slot key)
 
-  homes : sound n ≡ true → owner ≡ n.me → (present : Bool) (m : Marking) → marking_at n s ≡ m → Names (at_home s present m)
-  homes h e p Unmarked q = tt
-  homes h e true (Moving (Migrating peer)) q = tt
-  homes h e false (Moving (Migrating peer)) q =
+  homes : sound n ≡ true → owner ≡ n.me → (present : Bool) (m : Option Move) → marking_at n s ≡ m → Names (at_home s present m)
+  homes h e p None q = tt
+  homes h e true (Some (Migrating peer)) q = tt
+  homes h e false (Some (Migrating peer)) q =
       let a = peer_another n h s (Migrating peer) q in record { key's = refl; own = e; mark's = q; in_roster = a.0; another = a.1 }
-  homes h e p (Moving (Importing peer)) q = tt
+  homes h e p (Some (Importing peer)) q = tt
 
-  aways : owner < n.size → (owner ≡ n.me → ⊥) → (asking : Bool) (m : Marking) → Names (elsewhere s owner (known_epoch n owner) asking m)
-  aways l d a Unmarked = record { key's = refl; owner's = refl; owner's_epoch = refl; in_roster = l; another = d }
-  aways l d a (Moving (Migrating peer)) = record { key's = refl; owner's = refl; owner's_epoch = refl; in_roster = l; another = d }
-  aways l d true (Moving (Importing peer)) = tt
-  aways l d false (Moving (Importing peer)) = record { key's = refl; owner's = refl; owner's_epoch = refl; in_roster = l; another = d }
+  aways : owner < n.size → (owner ≡ n.me → ⊥) → (asking : Bool) (m : Option Move) → Names (elsewhere s owner (known_epoch n owner) asking m)
+  aways l d a None = record { key's = refl; owner's = refl; owner's_epoch = refl; in_roster = l; another = d }
+  aways l d a (Some (Migrating peer)) = record { key's = refl; owner's = refl; owner's_epoch = refl; in_roster = l; another = d }
+  aways l d true (Some (Importing peer)) = tt
+  aways l d false (Some (Importing peer)) = record { key's = refl; owner's = refl; owner's_epoch = refl; in_roster = l; another = d }
 
   names : (present asking : Bool) → Names (routed n slots key present asking)
   unfolding routed

@@ -1,6 +1,6 @@
 -- Where a key goes (01, "Redirections", with the fuller MOVED of 02, [5]): the replies in 01's words, which is given when, and what
 -- a reply names.
-use Rattle.std.specs.Prelude.{ℕ, ◌<◌, ◌≡◌, Bool, true, false, cond, not, List, [], ◌∷◌, length, eqb}
+use Rattle.std.specs.Prelude.{ℕ, ◌<◌, ◌≡◌, Bool, true, false, cond, not, List, [], ◌∷◌, length, eqb, None, Option, Some}
 use Rattle.tables.specs.Sizes.{slot_count}
 use Rattle.tables.specs.Checks.{checked, all_of, any_of}
 use Rattle.answers.specs.Answers.{number}
@@ -12,9 +12,8 @@ use Rattle.state.specs.declared.Move.TheVariants.{Migrating, Importing}
 use Rattle.soundness.specs.Sound.{sound}
 use Rattle.entry.specs.Entry.{entry_checks}
 use Rattle.marks.specs.Marks.{marking_at, owner_at, is_own}
-use Rattle.marks.specs.declared.Marking.{Marking}
-use Rattle.marks.specs.declared.Marking.TheVariants.{Unmarked, Moving}
 use Rattle.routing.specs.declared.Redirect.{Redirect}
+use Rattle.state.specs.declared.Move.{Move}
 use Rattle.routing.specs.declared.Redirect.TheVariants.{WrongLength, Unsound, Down, Serve, Ask, Moved}
 
 -- ---- the replies
@@ -43,24 +42,24 @@ reply (Moved s owner epoch) = moved s owner epoch
 
 -- ---- which is given
 
-abbrev pub is_migrating : Marking → Bool
-is_migrating Unmarked = false
-is_migrating (Moving (Migrating peer)) = true
-is_migrating (Moving (Importing peer)) = false
+abbrev pub is_migrating : Option Move → Bool
+is_migrating None = false
+is_migrating (Some (Migrating peer)) = true
+is_migrating (Some (Importing peer)) = false
 
-abbrev pub is_importing : Marking → Bool
-is_importing Unmarked = false
-is_importing (Moving (Migrating peer)) = false
-is_importing (Moving (Importing peer)) = true
+abbrev pub is_importing : Option Move → Bool
+is_importing None = false
+is_importing (Some (Migrating peer)) = false
+is_importing (Some (Importing peer)) = true
 
 -- owner is this node: marked migrating and key absent gives ASK, else serve
-abbrev pub at_home : ℕ → Bool → Marking → Reply
-at_home s present Unmarked = serve
-at_home s present (Moving (Migrating peer)) = cond present serve (ask s peer)
-at_home s present (Moving (Importing peer)) = serve
+abbrev pub at_home : ℕ → Bool → Option Move → Reply
+at_home s present None = serve
+at_home s present (Some (Migrating peer)) = cond present serve (ask s peer)
+at_home s present (Some (Importing peer)) = serve
 
 -- owner is another: marked importing and asking gives serve, else MOVED
-abbrev pub elsewhere : ℕ → ℕ → ℕ → Bool → Marking → Reply
+abbrev pub elsewhere : ℕ → ℕ → ℕ → Bool → Option Move → Reply
 elsewhere s owner epoch asking marking = cond (all_of (is_importing marking ∷ asking ∷ [])) serve (moved s owner epoch)
 
 -- a node's known configEpoch
@@ -120,7 +119,7 @@ abbrev pub is_taken : Node → List ℕ → Bool
 is_taken n slots = all_of (eqb (length slots) slot_count ∷ sound n ∷ [])
 
 -- by: the call is taken, the slot is owned, this node owns it, the key is present, ASKING came first, the slot's mark
-pub record Exactly (taken owned own present asking : Bool) (marking : Marking) (r : Reply) : Type 0 where
+pub record Exactly (taken owned own present asking : Bool) (marking : Option Move) (r : Reply) : Type 0 where
   -- refusals 1 and 7
   pub refused : is_refused r ≡ not taken
   -- unowned
@@ -146,7 +145,7 @@ pub record MovedNames (n : Node) (slots key : List ℕ) (s owner epoch : ℕ) : 
 pub record AskNames (n : Node) (slots key : List ℕ) (s peer : ℕ) : Type 0 where
   pub key's : s ≡ key_slot key
   pub own : owner_at slots s ≡ n.me
-  pub mark's : marking_at n s ≡ Moving (Migrating peer)
+  pub mark's : marking_at n s ≡ Some (Migrating peer)
   pub in_roster : peer < n.size
   pub another : peer ≡ n.me → ⊥
 

@@ -1,15 +1,14 @@
 // Where a key goes: document 01, "Redirections", with the fuller MOVED of document 02, [5].
 #![tactic(auto)]
 
-ghost use Rattle.std.specs.Prelude.{◌≡◌, true, ◌<◌, length};
-ghost use Rattle.answers.specs.Answers.{number};
-ghost use Rattle.routing.specs.Replies.{reply, refused, is_entry, is_importing, at_home, elsewhere, known_epoch, redirected, routed};
+ghost use Rattle.std.specs.Prelude.{◌≡◌, ◌<◌, length};
+ghost use Rattle.routing.specs.Replies.{reply, is_importing, at_home, elsewhere, known_epoch, redirected, routed};
 
-use answers::{Answer, Check};
-use marks::Marking;
+use answers::Answer;
 use state::{Move, Node};
 
 // A redirection, or a refusal.
+// Not a Result: `reply`, `ReplySettles` and the gateway's definitions speak of these six cases.
 #[derive(Clone, Copy)]
 pub enum Redirect {
     WrongLength,
@@ -23,57 +22,31 @@ pub enum Redirect {
     Moved { slot: u16, owner: u16, epoch: u64 },
 }
 
-// A refusal: 1 or 7.
-fn refused(refusal: Answer) -> Redirect
-    requires { is_entry refusal ≡ true }
-    ensures { reply result ≡ refused (number refusal) }
-{
-    if answers::number(refusal) == 1 {
-        return Redirect::WrongLength;
-    }
-    Redirect::Unsound
-}
-
-fn is_importing(marking: Marking) -> bool
+fn is_importing(marking: Option<Move>) -> bool
     ensures { result ≡ is_importing marking }
 {
-    match marking {
-        Marking::Unmarked => false,
-        Marking::Moving(movement) => match movement {
-            Move::Migrating(_) => false,
-            Move::Importing(_) => true,
-        },
-    }
+    matches!(marking, Some(Move::Importing(_)))
 }
 
 // A slot of this node's own: a key that is not here any more may be where the slot migrates to.
-fn at_home(slot: u16, present: bool, marking: Marking) -> Redirect
+fn at_home(slot: u16, present: bool, marking: Option<Move>) -> Redirect
     ensures { reply result ≡ at_home slot present marking }
 {
     match marking {
-        Marking::Unmarked => Redirect::Serve,
-        Marking::Moving(movement) => match movement {
-            Move::Migrating(to) => {
-                if present {
-                    return Redirect::Serve;
-                }
-                let peer = to as u16;
-                Redirect::Ask { slot, peer }
-            }
-            Move::Importing(_) => Redirect::Serve,
+        Some(Move::Migrating(to)) if !present => Redirect::Ask {
+            slot,
+            peer: u16::from(to),
         },
+        _ => Redirect::Serve,
     }
 }
 
 // A slot of another's: who was sent here by an ASK is served.
-fn elsewhere(slot: u16, owner: u16, epoch: u64, asking: bool, marking: Marking) -> Redirect
+fn elsewhere(slot: u16, owner: u16, epoch: u64, asking: bool, marking: Option<Move>) -> Redirect
     ensures { reply result ≡ elsewhere slot owner epoch asking marking }
 {
-    if is_importing(marking) {
-        if asking {
-            return Redirect::Serve;
-        }
-        return Redirect::Moved { slot, owner, epoch };
+    if is_importing(marking) && asking {
+        return Redirect::Serve;
     }
     Redirect::Moved { slot, owner, epoch }
 }
@@ -82,12 +55,10 @@ fn elsewhere(slot: u16, owner: u16, epoch: u64, asking: bool, marking: Marking) 
 fn known_epoch(node: Node, k: u16) -> u64
     ensures { result ≡ known_epoch node k }
 {
-    let at = k as usize;
-    if at >= tables::NODES {
-        return 0;
+    match node.records.get(usize::from(k)) {
+        Some(known) => known.config,
+        None => 0,
     }
-    let known = node.records[at];
-    known.config
 }
 
 // A key of that slot, past the refusals.
@@ -95,7 +66,7 @@ fn redirected(node: Node, slots: &[u16], slot: u16, present: bool, asking: bool)
     requires { slot < length slots.now }
     ensures { reply result ≡ redirected node slots.now slot present asking }
 {
-    let owner = slots[slot as usize];
+    let owner = slots[usize::from(slot)];
     if owner >= node.size {
         return Redirect::Down;
     }
@@ -110,12 +81,11 @@ fn redirected(node: Node, slots: &[u16], slot: u16, present: bool, asking: bool)
 pub fn route(node: Node, slots: &[u16], key: &[u8], present: bool, asking: bool) -> Redirect
     ensures { reply result ≡ routed node slots.now key.now present asking }
 {
-    let check = entry::checks(node, slots.len() == tables::SLOTS as usize);
-    match check {
-        Check::Refused(refusal) => refused(refusal),
-        Check::Passed => {
-            let slot = slots::key_slot(key);
-            redirected(node, slots, slot, present, asking)
-        }
+    match entry::checks(node, slots.len() == usize::from(tables::SLOTS)) {
+        Err(refusal) => match refusal {
+            Answer::WrongLength => Redirect::WrongLength,
+            _ => Redirect::Unsound,
+        },
+        Ok(()) => redirected(node, slots, slots::key_slot(key), present, asking),
     }
 }

@@ -1,5 +1,6 @@
 -- The computed examples of demand 3. A vote request is computed up to its looks at the bitmap, which is computed apart, and at
 -- the owners of the slots that it claims, which a law answers; all else is computed whole.
+use Rattle.std.specs.Prelude.{None, Option}
 use mathlib.Core.Path.{◌≡◌, refl, sym, ap, ap₂, ◌∙◌, subst}
 use mathlib.Core.Logic.{inl, inr}
 use mathlib.Core.Bool.{Bool, true, false, cond}
@@ -16,8 +17,6 @@ use Rattle.tables.specs.Checks.{all_of}
 use Rattle.tables.specs.Below.{every}
 use Rattle.tables.specs.Lists.{map_from, first_from, first_at}
 use Rattle.tables.specs.Sets.{claimed, word_of, words_from}
-use Rattle.tables.specs.declared.Found.{Found}
-use Rattle.tables.specs.declared.Found.TheVariants.{Nothing}
 use Rattle.nodesets.specs.NodeSets.{gathered}
 use Rattle.answers.specs.Answers.{number}
 use Rattle.answers.specs.declared.Answer.TheVariants.{ClaimsNothing}
@@ -58,17 +57,17 @@ no_newer_owner true true = refl
 no_newer_owner true false = refl
 no_newer_owner false known = refl
 
-none_owned : (n : Node) (bitmap : List ℕ) (i k : ℕ) → listed n unowned ≡ false → first_from (newer n bitmap 0) i (replicate k unowned) ≡ Nothing
+none_owned : (n : Node) (bitmap : List ℕ) (i k : ℕ) → listed n unowned ≡ false → first_from (newer n bitmap 0) i (replicate k unowned) ≡ None
 unfolding first_from
 none_owned n bitmap i zero h = refl
 none_owned n bitmap i (suc k) h = rw (h, unlisted_owner (claimed bitmap i) (ltb 0 (record_at n unowned).config)) (none_owned n bitmap (suc i) k h)
 
-past_owner : (n : Node) (bitmap : List ℕ) (i owner : ℕ) (rest : List ℕ) → ltb 0 (record_at n owner).config ≡ false → first_from (newer n bitmap 0) (suc i) rest ≡ Nothing → first_from (newer n bitmap 0) i (owner ∷ rest) ≡ Nothing
+past_owner : (n : Node) (bitmap : List ℕ) (i owner : ℕ) (rest : List ℕ) → ltb 0 (record_at n owner).config ≡ false → first_from (newer n bitmap 0) (suc i) rest ≡ None → first_from (newer n bitmap 0) i (owner ∷ rest) ≡ None
 unfolding first_from
 past_owner n bitmap i owner rest z h = rw (z, no_newer_owner (claimed bitmap i) (listed n owner)) h
 
 none_newer : (n : Node) (bitmap : List ℕ) (first second : ℕ) → listed n unowned ≡ false → ltb 0 (record_at n 0).config ≡ false → ltb 0 (record_at n first).config ≡ false → ltb 0 (record_at n second).config ≡ false
-    → first_at (newer n bitmap 0) (owned_by first second).slots ≡ Nothing
+    → first_at (newer n bitmap 0) (owned_by first second).slots ≡ None
 none_newer n bitmap first second h z f s = past_owner n bitmap 0 0 _ z (past_owner n bitmap 1 first _ f (past_owner n bitmap 2 second _ s (none_owned n bitmap 3 16381 h)))
 
 -- node v, when it has heard from s that node 0 is FAIL, whatever the tables then, and takes in a request
@@ -76,7 +75,7 @@ abbrev asked : Roster → ℕ → ℕ → Node
 asked r v s = arrived 0 1 (state_of r timeouts (gets v (fail_line s) ∷ []) v)
 
 -- what it did once the request of c was answered, by whether the bitmap is empty and by what the look at the table finds
-abbrev voter : Roster → ℕ → ℕ → ℕ → Bool → Found → List Deed
+abbrev voter : Roster → ℕ → ℕ → ℕ → Bool → Option ℕ → List Deed
 voter r v s c t x =
     let n = asked r v s in
     kind_deed (record { time = 0; epoch = 1; config = 0 }) (Request c) (number (cond t (answered n ClaimsNothing) (by_owners n 0 1 x)).answer) ∷ other ∷ []

@@ -1,4 +1,5 @@
 -- Each call of the node moves what demand 3 looks at as its deed says.
+use Rattle.std.specs.Prelude.{None, Option, Some}
 use mathlib.Core.Path.{◌≡◌, refl, sym, ap, ◌∙◌}
 use mathlib.Core.Logic.{◌⊎◌, inl, inr}
 use mathlib.Core.Bool.{Bool, true, false, cond, not, ◌||◌}
@@ -26,7 +27,6 @@ use Rattle.state.specs.declared.Outcome.{Outcome}
 use Rattle.state.specs.declared.Role.{Role}
 use Rattle.state.specs.declared.Role.TheVariants.{Master, Replica}
 use Rattle.state.specs.declared.Election.{Election}
-use Rattle.state.specs.declared.Election.TheVariants.{Closed, Open}
 use Rattle.soundness.specs.Sound.{sound}
 use Rattle.soundness.proofs.Facts.{few_nodes, all_records}
 use Rattle.soundness.proofs.Keeps.{Keeps}
@@ -36,8 +36,6 @@ use Rattle.frames.specs.Frames.{frame_of, bitmap_of}
 use Rattle.frames.specs.declared.Header.{Header}
 use Rattle.frames.specs.declared.Kind.{Kind}
 use Rattle.frames.specs.declared.Kind.TheVariants.{Heartbeat, Report, Fail, Request, Ack, Probe, Tick}
-use Rattle.frames.specs.declared.Decoded.{Decoded}
-use Rattle.frames.specs.declared.Decoded.TheVariants.{NotAFrame, Good}
 use Rattle.refusals.specs.Refusals.{is_unlisted, names_this_node, frame_refusals, refusals}
 use Rattle.refusals.proofs.Admitted.{admitted, arrives}
 use Rattle.failure.specs.Keeps.{Kept}
@@ -62,13 +60,14 @@ use Rattle.node.specs.Step.{turned_away, taken_in, on_frame}
 use Rattle.node.specs.Calls.{Tables, Call, frame, opening, setting, clearing, outcome}
 use Rattle.safety.specs.Deeds.{Deed, other}
 use Rattle.safety.specs.Calls.{kind_deed, frame_deed, deed_of, deed}
+use Rattle.frames.specs.declared.Frame.{Frame}
 use Rattle.safety.proofs.Life.{View, Poll, closed, running, Hears, Moves}
 
 -- ---- what demand 3 looks at in a node
 
-abbrev pub poll_of : Election → Poll
-poll_of Closed = closed
-poll_of (Open epoch opened voters heard) = running epoch (has voters) (has heard)
+abbrev pub poll_of : Option Election → Poll
+poll_of None = closed
+poll_of (Some e) = running e.epoch (has e.voters) (has e.heard)
 
 -- the others that are recorded as masters
 abbrev pub other_master : Node → ℕ → Bool
@@ -256,10 +255,10 @@ module _ (n : Node) where
 -- ---- a frame's line
 
 -- no refusal is answered 0, 10 or 30
-all_refuse : (n : Node) (slots reports : ℕ) (d : Decoded) → refusals_pass refuses (refusals n slots reports d) ≡ true
+all_refuse : (n : Node) (slots reports : ℕ) (d : Option Frame) → refusals_pass refuses (refusals n slots reports d) ≡ true
 unfolding refusals frame_refusals
-all_refuse n slots reports NotAFrame = refl
-all_refuse n slots reports (Good f) = refl
+all_refuse n slots reports None = refl
+all_refuse n slots reports (Some f) = refl
 
 frame_good : (n : Node) (t : Tables) (line : List ℕ) → Follows n (deed n t (frame line)) (outcome n t (frame line)).node
 unfolding on_frame with_clock with_current
@@ -274,16 +273,16 @@ frame_good n t line =
     times : ℕ
     times = length t.reports
 
-    P : Decoded → Stepped → Type 0
+    P : Option Frame → Stepped → Type 0
     P d x = Follows n (frame_deed d (number x.outcome.answer)) x.outcome.node
 
-    away : (d : Decoded) (a : Answer) → T (refuses a) → P d (turned_away n t.slots t.reports a)
-    away NotAFrame a w = rests n n (alike n)
-    away (Good f) a w = refused n f.header f.kind a w
+    away : (d : Option Frame) (a : Answer) → T (refuses a) → P d (turned_away n t.slots t.reports a)
+    away None a w = rests n n (alike n)
+    away (Some f) a w = refused n f.header f.kind a w
 
-    onward : (d : Decoded) → ((a : ℕ) → test_for a (refusals n long times d) ≡ false) → P d (taken_in n t.slots t.reports (bitmap_of line) d)
-    onward NotAFrame p = rests n n (alike n)
-    onward (Good f) p =
+    onward : (d : Option Frame) → ((a : ℕ) → test_for a (refusals n long times d) ≡ false) → P d (taken_in n t.slots t.reports (bitmap_of line) d)
+    onward None p = rests n n (alike n)
+    onward (Some f) p =
         let w = admitted n long times f p in
         let h = f.header in
         let x = kind_good (arrived h.time h.epoch n) t.slots t.reports (bitmap_of line) h f.kind (arrives n long times f w) w.all_listed w.not_this_node in

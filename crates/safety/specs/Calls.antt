@@ -1,5 +1,5 @@
 -- What each call of demand 3 comes to: document 01, "The lists of demand 3". The calls themselves are node's (`Calls`).
-use Rattle.std.specs.Prelude.{ℕ, cond, eqb}
+use Rattle.std.specs.Prelude.{ℕ, cond, eqb, None, Option, Some}
 use Rattle.answers.specs.Answers.{number}
 use Rattle.state.specs.Node.{is_master}
 use Rattle.state.specs.declared.Node.{Node}
@@ -7,9 +7,8 @@ use Rattle.frames.specs.Frames.{frame_of}
 use Rattle.frames.specs.declared.Header.{Header}
 use Rattle.frames.specs.declared.Kind.{Kind}
 use Rattle.frames.specs.declared.Kind.TheVariants.{Heartbeat, Report, Fail, Request, Ack, Probe, Tick}
-use Rattle.frames.specs.declared.Decoded.{Decoded}
-use Rattle.frames.specs.declared.Decoded.TheVariants.{NotAFrame, Good}
 use Rattle.node.specs.Calls.{Tables, Call, frame, opening, setting, clearing, outcome}
+use Rattle.frames.specs.declared.Frame.{Frame}
 use Rattle.safety.specs.Deeds.{Deed, granted, counted, won, opened, announced, other}
 
 -- what a frame came to, by its answer's number
@@ -22,9 +21,9 @@ kind_deed h (Ack voter candidate) a = cond (eqb a 30) (won voter h.epoch) (cond 
 kind_deed h (Probe subject echo) a = other
 kind_deed h Tick a = other
 
-abbrev pub frame_deed : Decoded → ℕ → Deed
-frame_deed NotAFrame a = other
-frame_deed (Good f) a = kind_deed f.header f.kind a
+abbrev pub frame_deed : Option Frame → ℕ → Deed
+frame_deed None a = other
+frame_deed (Some f) a = kind_deed f.header f.kind a
 
 -- what a call came to, from its arguments, the tables lent and its answer's number alone
 abbrev pub deed_of : Tables → Call → ℕ → Deed

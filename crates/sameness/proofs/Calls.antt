@@ -1,4 +1,5 @@
 -- Every call on two nodes that are alike, and every list of calls.
+use Rattle.std.specs.Prelude.{None, Option, Some}
 use mathlib.Core.Path.{◌≡◌, refl, sym, ◌∙◌}
 use mathlib.Core.Bool.{Bool, true, false, cond}
 use mathlib.Core.List.{List, [], ◌∷◌, ◌++◌}
@@ -21,8 +22,6 @@ use Rattle.frames.specs.Frames.{frame_of, bitmap_of}
 use Rattle.frames.specs.declared.Header.{Header}
 use Rattle.frames.specs.declared.Kind.{Kind}
 use Rattle.frames.specs.declared.Kind.TheVariants.{Heartbeat, Report, Fail, Request, Ack, Probe, Tick}
-use Rattle.frames.specs.declared.Decoded.{Decoded}
-use Rattle.frames.specs.declared.Decoded.TheVariants.{NotAFrame, Good}
 use Rattle.refusals.specs.Refusals.{both_long, frame_refusals, refusals}
 use Rattle.openings.specs.Openings.{time_checks, open_refusals, opens}
 use Rattle.kinds.specs.Kinds.{keeping, on_kind}
@@ -34,6 +33,7 @@ use Rattle.sameness.proofs.Told.{Told, same_step, answered_told, entry_alike, ch
 use Rattle.sameness.proofs.Failure.{probe_change, tick_change, fail_change, reported_told}
 use Rattle.sameness.proofs.Heartbeats.{heartbeat_told}
 use Rattle.sameness.proofs.Elections.{requested_told, standing_told, acked_told}
+use Rattle.frames.specs.declared.Frame.{Frame}
 use Rattle.sameness.proofs.Marks.{routed_alike, ranges_alike, set_told, clear_told}
 
 -- ---- what rules read of a sound state is in the roster
@@ -67,10 +67,10 @@ module _ (a b : Node) (e : Alike a b) (r : InRoster a) (slots reports bitmap : L
   kind_told (Probe subject echo) = answered_told _ _ (changes_alike a b e _ (probe_change slots subject echo)) slots reports answer.Done
   kind_told Tick = answered_told _ _ (changes_alike a b e _ (tick_change slots reports)) slots reports answer.Done
 
-refusals_read : (d : Decoded) → Reads (λ n. frame_refusals n d)
+refusals_read : (d : Option Frame) → Reads (λ n. frame_refusals n d)
 unfolding frame_refusals
-refusals_read NotAFrame n = refl
-refusals_read (Good f) n = refl
+refusals_read None n = refl
+refusals_read (Some f) n = refl
 
 module _ (a b : Node) (e : Alike a b) where
   frame_told : (slots reports line : List ℕ) → Told (on_frame a slots reports line) (on_frame b slots reports line)
@@ -80,9 +80,9 @@ module _ (a b : Node) (e : Alike a b) where
       (λ i. entry_alike a b e (both_long (length slots) (length reports)) i ++ reads_alike a b e (λ n. frame_refusals n (frame_of line)) (refusals_read (frame_of line)) i) _ _
       (answered_told a b e slots reports) (λ p. taken_told (in_roster_lem a (not-false _ (p 7))) (frame_of line))
     where
-      taken_told : InRoster a → (d : Decoded) → Told (taken_in a slots reports (bitmap_of line) d) (taken_in b slots reports (bitmap_of line) d)
-      taken_told r NotAFrame = answered_told a b e slots reports answer.NotAFrame
-      taken_told r (Good f) =
+      taken_told : InRoster a → (d : Option Frame) → Told (taken_in a slots reports (bitmap_of line) d) (taken_in b slots reports (bitmap_of line) d)
+      taken_told r None = answered_told a b e slots reports answer.NotAFrame
+      taken_told r (Some f) =
           kind_told _ _ (changes_alike a b e (arrived f.header.time f.header.epoch) (λ n. refl)) (record { me = r.me; followed = r.followed })
           slots reports (bitmap_of line) f.header f.kind
 

@@ -1,4 +1,5 @@
 -- Probes, ticks, reports and fail frames change a node by its state alone.
+use Rattle.std.specs.Prelude.{None}
 use mathlib.Core.Path.{refl, ap, fun_ext, ◌∙◌}
 use mathlib.Core.List.{List}
 use Prim.Native.Nat.{ℕ}
@@ -11,7 +12,6 @@ use Rattle.state.specs.declared.Node.{Node}
 use Rattle.state.specs.declared.Role.{Role}
 use Rattle.state.specs.declared.Flag.{Flag}
 use Rattle.state.specs.declared.Flag.TheVariants.{Clear, Pfail, Fail}
-use Rattle.state.specs.declared.Moment.TheVariants.{Never}
 use Rattle.state.specs.declared.Echo.{Echo}
 use Rattle.state.specs.declared.Echo.TheVariants.{Ping, Pong}
 use Rattle.state.specs.declared.Verdict.{Verdict}
@@ -34,7 +34,7 @@ pong_read slots s role (Fail t) n = refl
 probe_read : (slots : List ℕ) (s : ℕ) (echo : Echo) → Reads (λ n. after_probe n slots s echo)
 unfolding after_probe
 probe_read slots s Ping n = refl
-probe_read slots s Pong n = fun_ext (λ r. ap (λ (f : Flag). with_ping Never (with_flag f r)) (pong_read slots s r.role r.flag n))
+probe_read slots s Pong n = fun_ext (λ r. ap (λ (f : Flag). with_ping None (with_flag f r)) (pong_read slots s r.role r.flag n))
 
 pub probe_change : (slots : List ℕ) (s : ℕ) (echo : Echo) → Changes (λ n. probed n slots s echo)
 unfolding probed

@@ -1,14 +1,12 @@
 -- A line that gets longer, and what is kept of it.
 use mathlib.Core.Path.{◌≡◌, refl, sym, ap, ◌∙◌}
 use mathlib.Core.Bool.{Bool, true, false, cond}
-use mathlib.Core.List.{List, [], ◌∷◌, ◌++◌, append-nil, append_assoc}
-use Prim.Native.Nat.{ℕ, suc, ◌+◌, ◌-◌, ◌≤◌, ◌<◌}
-use native.Mathlib.Nat.{add-zero}
+use mathlib.Core.List.{List, [], ◌∷◌, ◌++◌, append-nil}
+use Prim.Native.Nat.{ℕ, ◌+◌, ◌-◌, ◌≤◌, ◌<◌}
 use native.Mathlib.Omega.{arith}
-use native.Mathlib.Numerals.{add-one}
 use lib.Dec.{ltb}
-use lib.ListN.{length, take, get_or, set, length-append, length-set}
-use lib.Seq.{take-suc, take-suc-set, take_all, append_snoc, length-take-le}
+use lib.ListN.{length, take, length-append}
+use lib.Seq.{append_snoc, length-take-le}
 use borrow.Author.Tests.{lt-ltb, le-ltb, ltb-true}
 use Rattle.scraps.specs.declared.Kept.{Kept}
 use Rattle.scraps.specs.Scraps.{room, Line, short, long, part_of, grown}
@@ -65,32 +63,11 @@ module _ (bytes more : List ℕ) (n : ℕ) where
       part_long bytes (room + 1) (omega arith)
       ∙ sym (ap (λ (l : Line). grown l more) (part_short bytes n h) ∙ too_many (take n bytes) more (omega (arith, length-take-le n bytes (omega arith))) (omega (arith, length-take-le n bytes (omega arith))))
 
--- ---- the copy: i bytes of `more` stand behind the first `start`
-pub record Copied (was is more : List ℕ) (start i : ℕ) : Type 0 where
-  pub front : take (start + i) is ≡ take start was ++ take i more
-  pub wide : length is ≡ room
-  pub some : i ≤ length more
-  pub fit : start + length more ≤ room
-
-pub begun : (was more : List ℕ) (start : ℕ) → length was ≡ room → start ≤ room → length more ≤ room - start → Copied was was more start 0
-begun was more start w h g = record { front = rw (add-zero start, append-nil); wide = w; some = omega arith; fit = omega arith }
-
-module _ {was is more : List ℕ} {start i : ℕ} (m : Copied was is more start i) where
-  pub turn : i < length more → Copied was (set is (start + i) (get_or more i 0)) more start (i + 1)
-  turn h =
-      let g : start + i < length is = omega (arith, m.wide, m.fit) in
-      record {
-        front =
-            let z : start + (i + 1) ≡ suc (start + i) = omega arith in
-            rw (z, add-one i) (take-suc-set is (start + i) (get_or more i 0) g ∙ rw (m.front, take-suc more i 0 h, append_assoc));
-        wide = length-set is (start + i) (get_or more i 0) ∙ m.wide;
-        some = omega arith;
-        fit = m.fit;
-      }
-
-  pub copied : start ≤ length was → length more ≤ i → part_of (record { bytes = is; length = start + i }) ≡ grown (part_of (record { bytes = was; length = start })) more
-  copied w h =
-      part_short is (start + i) (omega (arith, m.some, m.fit))
-      ∙ ap short (m.front ∙ rw (take_all i more h))
-      ∙ sym (fits (take start was) more (omega (arith, m.fit, length-take-le start was w)))
-      ∙ ap (λ (l : Line). grown l more) (sym (part_short was start (omega (arith, m.fit))))
+  -- more characters stand behind what was kept
+  pub copied : n ≤ length bytes → n ≤ room → length more ≤ room - n → (is : List ℕ) {end : ℕ} → end ≡ n + length more → take end is ≡ take n bytes ++ more
+      → part_of (kept is end) ≡ grown (part_of (kept bytes n)) more
+  copied w h g is {end} e f =
+      part_short is end (omega arith)
+      ∙ ap short f
+      ∙ sym (fits (take n bytes) more (omega (arith, length-take-le n bytes w)))
+      ∙ ap (λ (l : Line). grown l more) (sym (part_short bytes n h))

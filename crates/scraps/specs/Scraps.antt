@@ -1,8 +1,6 @@
 -- A line that arrives in pieces: document 02, [9]. What is taken of a piece, and what is kept of a line.
-use Rattle.std.specs.Prelude.{ℕ, ◌+◌, Bool, true, false, cond, List, [], ◌∷◌, ◌++◌, length, take, ltb}
+use Rattle.std.specs.Prelude.{ℕ, ◌+◌, Bool, true, false, cond, List, [], ◌∷◌, ◌++◌, length, take, ltb, None, Option, Some}
 use Rattle.tables.specs.Lists.{first_byte, newline}
-use Rattle.tables.specs.declared.Found.{Found}
-use Rattle.tables.specs.declared.Found.TheVariants.{Nothing, At}
 use Rattle.scraps.specs.declared.Kept.{Kept}
 use Rattle.scraps.specs.declared.Gathered.{Gathered}
 
@@ -38,9 +36,9 @@ pub record Taken : Type 0 where
   pub ended : Bool
 
 -- by where the first newline stands: all bytes up to it, and it is used and no part of the line; or the whole piece
-abbrev pub up_to : Line → List ℕ → Found → Taken
-up_to line piece Nothing = record { line = grown line piece; used = length piece; ended = false }
-up_to line piece (At k) = record { line = grown line (take k piece); used = k + 1; ended = true }
+abbrev pub up_to : Line → List ℕ → Option ℕ → Taken
+up_to line piece None = record { line = grown line piece; used = length piece; ended = false }
+up_to line piece (Some k) = record { line = grown line (take k piece); used = k + 1; ended = true }
 
 unfoldable pub takes : Line → List ℕ → Taken
 takes line piece = up_to line piece (first_byte newline piece)

@@ -21,7 +21,7 @@ follows k m n = on_record k (with_role (Replica m)) n
 abbrev pub waits : ℕ → Node → Node
 waits t n = record { ids = n.ids; records = n.records; marks = n.marks; size = n.size; me = n.me; marked = n.marked; current = n.current; voted = n.voted; clock = n.clock; timeout = t; election = n.election }
 
--- the flags' numbers, by which their texts are found
+-- the flags' numbers, by which a flag is told from another
 abbrev pub flag_number : Flag → ℕ
 flag_number Clear = 0
 flag_number Pfail = 1

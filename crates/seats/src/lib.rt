@@ -22,8 +22,7 @@ pub struct Seat {
 pub fn seated(node: Node, past: Seat) -> Seat
     ensures { result ≡ record { node = node; kept = past.kept } }
 {
-    let kept = past.kept;
-    Seat { node, kept }
+    Seat { node, ..past }
 }
 
 // Numbers that the reading has seen to fit.
@@ -59,6 +58,7 @@ pub fn newcomer(size: u64, k: usize) -> Seat
 // ---- a roster
 
 // Every node lists a node as a replica of another.
+#[tactic(auto, unfolding(state::specs::Changes::with_records))]
 pub fn follow(node: Node, j: u64, master: u64) -> Node
     ensures { result ≡ follows (j % 64) (master % 256) node }
 {
@@ -73,9 +73,7 @@ pub fn follow(node: Node, j: u64, master: u64) -> Node
 pub fn wait(node: Node, timeout: u64) -> Node
     ensures { result ≡ waits timeout node }
 {
-    let mut next = node;
-    next.timeout = timeout;
-    next
+    Node { timeout, ..node }
 }
 
 // ---- what is told of a node
@@ -88,6 +86,7 @@ pub fn own(node: Node) -> Record
     node.records[me]
 }
 
+// Numbers, as the definition of that name has them: FAIL set at another time is no other flag to what is told.
 fn flag_number(flag: Flag) -> u8
     ensures { result ≡ flag_number flag }
 {
@@ -102,13 +101,5 @@ fn flag_number(flag: Flag) -> u8
 pub fn flags(node: Node) -> [u8; tables::NODES]
     ensures { result ≡ map flag_of node.records }
 {
-    let mut flags = [0u8; tables::NODES];
-    let mut k: usize = 0;
-    while k < tables::NODES {
-        let known = node.records[k];
-        let flag = known.flag;
-        flags[k] = flag_number(flag);
-        k += 1;
-    }
-    flags
+    node.records.map(|known| flag_number(known.flag))
 }

@@ -2,12 +2,13 @@
 // argument is the roster's size. A fault is told on standard error, with what was expected.
 #![tactic(auto)]
 
-ghost use Rattle.std.specs.Prelude.{◌≡◌, cond, take};
+ghost use Rattle.std.specs.Prelude.{◌≡◌, cond, take, Some, None};
 ghost use Rattle.words.specs.Numbers.{value, between};
-ghost use Rattle.lines.specs.Texts.{Text, puts};
+ghost use Rattle.lines.specs.Writers.{extended};
 ghost use Rattle.slotmap.specs.Table.{in_words};
 
-use dumps::Reading;
+use dumps::Fault;
+use lines::Writer;
 use std::env::Env;
 use std::io;
 use std::io::Read;
@@ -32,10 +33,7 @@ const WORD: usize = 20;
 fn front(bytes: &[u8], end: usize) -> &[u8]
     ensures { result.now ≡ take end bytes.now }
 {
-    if end < bytes.len() {
-        return &bytes[..end];
-    }
-    bytes
+    bytes.get(..end).unwrap_or(bytes)
 }
 
 // ---- faults
@@ -58,9 +56,14 @@ fn fault(err: &impl Print, text: &[u8]) {
 
 // The same where a text has numbers in it, the next one for each %.
 fn fault_with(err: &impl Print, text: &[u8], numbers: &[u64]) {
-    let mut out = [0u8; LINE];
-    let end = phrases::put_filled(&mut out, 0, text, numbers);
-    fault(err, front(&out, end));
+    let mut line = [0u8; LINE];
+    let mut out = Writer {
+        bytes: &mut line,
+        end: 0,
+    };
+    phrases::put_filled(&mut out, text, numbers);
+    let end = out.end;
+    fault(err, front(&line, end));
 }
 
 fn wrong_digits(err: &impl Print, count: usize) {
@@ -78,21 +81,15 @@ struct Place {
 // The place behind these bytes.
 fn place_behind(bytes: &[u8]) -> Place {
     let mut line: usize = 1;
-    let mut start: usize = 0;
-    let mut i: usize = 0;
-    while i < bytes.len() {
-        if bytes[i] == b'\n' {
-            i += 1;
+    let mut character: usize = 1;
+    for byte in bytes {
+        character += 1;
+        if *byte == b'\n' {
             line += 1;
-            start = i;
-            continue;
+            character = 1;
         }
-        i += 1;
     }
-    Place {
-        line,
-        character: bytes.len() - start + 1,
-    }
+    Place { line, character }
 }
 
 fn odd_character(err: &impl Print, input: &[u8], at: usize) {
@@ -112,33 +109,32 @@ fn odd_character(err: &impl Print, input: &[u8], at: usize) {
 
 // ---- the argument
 
-// The roster's size that a word says; 0 where it is none.
-fn size_of(word: &[u8]) -> u16
-    ensures { result ≡ cond (between 1 64 (value word.now)) (value word.now) 0 }
+// The roster's size that a word says.
+fn size_of(word: &[u8]) -> Option<u16>
+    ensures { result ≡ cond (between 1 64 (value word.now)) (Some (value word.now)) None }
 {
-    let fit = words::number(word, b'n');
-    let size = fit.value;
-    if words::between(size, 1, tables::NODES as u64) {
-        return size as u16;
+    let size = words::number(word, b'n').ok()?;
+    if !words::between(size, 1, tables::NODES as u64) {
+        return None;
     }
-    0
+    Some(size as u16)
 }
 
-// The roster's size; 0 where the arguments do not say it.
-fn roster(env: &impl Env, err: &impl Print) -> u16 {
+// The roster's size, if the arguments say it.
+fn roster(env: &impl Env, err: &impl Print) -> Option<u16> {
     let count = lines::argument_count(env);
     if count < 2 {
         fault(err, b"the roster's size is missing");
-        return 0;
+        return None;
     }
     if count > 2 {
         fault(err, b"there is more than one argument");
-        return 0;
+        return None;
     }
     let mut word = [0u8; WORD];
     let length = env.arg(1, &mut word).unwrap_or(0);
     let size = size_of(&word[..length]);
-    if size == 0 {
+    if size.is_none() {
         fault(err, b"the roster's size is no number from 1 to 64");
     }
     size
@@ -146,71 +142,78 @@ fn roster(env: &impl Env, err: &impl Print) -> u16 {
 
 // ---- the table
 
-// What is read: all of the input, so many bytes of it; or a read fails; or the buffer is full.
+// Why not all of the input is read: a read fails, or the buffer is full.
 #[derive(Clone, Copy)]
-enum Input {
-    Whole(usize),
+enum Unread {
     Failed(io::Error),
     TooLong,
 }
 
-fn take<R: Read>(input: &mut R, buf: &mut [u8]) -> Input {
+// Reads all of the input, and says how many bytes it has. A turn goes on by what a read gave, so no `for` goes over the places.
+fn take<R: Read>(input: &mut R, buf: &mut [u8]) -> Result<usize, Unread> {
     let mut end: usize = 0;
     while end < buf.len() {
         match input.read(&mut buf[end..]) {
-            Err(error) => return Input::Failed(error),
-            Ok(0) => return Input::Whole(end),
+            Ok(0) => return Ok(end),
             Ok(more) => end += more,
+            Err(error) => return Err(Unread::Failed(error)),
         }
     }
-    Input::TooLong
+    Err(Unread::TooLong)
 }
 
-// What is said of a table, from the front of a buffer on. The list has room for its ranges.
-fn put_table(slots: &[u16; SLOTS], size: u16, list: &mut [u16; LIST], out: &mut [u8]) -> usize
-    ensures { record { bytes = out.new; end = result } ≡ puts (record { bytes = out.old; end = 0 }) (in_words size slots.now) }
+// Adds what is said of a table. The list has room for its ranges.
+fn put_table(slots: &[u16; SLOTS], size: u16, list: &mut [u16; LIST], out: &mut Writer)
+    ensures { out.new ≡ extended out.old (in_words size slots.now) }
 {
     let count = listing::list_whole(slots, size, list);
-    let end = aloud::put_listing(out, 0, b"", aloud::front(list, count));
-    totals::put_totals(out, end, slots, size)
+    aloud::put_listing(out, b"", aloud::front(list, count));
+    totals::put_totals(out, slots, size);
 }
 
-fn print(to: &impl Print, slots: &[u16; SLOTS], size: u16, list: &mut [u16; LIST], out: &mut [u8]) {
-    let end = put_table(slots, size, list, out);
-    lines::flush(to, out, end);
+fn print(
+    to: &impl Print,
+    slots: &[u16; SLOTS],
+    size: u16,
+    list: &mut [u16; LIST],
+    out: &mut Writer,
+) {
+    put_table(slots, size, list, out);
+    out.flush(to);
 }
 
 fn tell(to: &impl Print, err: &impl Print, input: &[u8], size: u16) {
     let mut slots = [tables::UNOWNED; SLOTS];
     let mut list = [0u16; LIST];
-    let mut out = [0u8; TEXT];
-    let reading = dumps::read(input, &mut slots);
-    match reading {
-        Reading::Table => print(to, &slots, size, &mut list, &mut out),
-        Reading::Odd(place) => odd_character(err, input, place),
-        Reading::Digits(count) => wrong_digits(err, count),
+    let mut text = [0u8; TEXT];
+    let mut out = Writer {
+        bytes: &mut text,
+        end: 0,
+    };
+    match dumps::read(input, &mut slots) {
+        Ok(()) => print(to, &slots, size, &mut list, &mut out),
+        Err(Fault::Odd(place)) => odd_character(err, input, place),
+        Err(Fault::Digits(count)) => wrong_digits(err, count),
     }
 }
 
 // All of it, with room for the input.
 fn run<R: Read>(to: &impl Print, err: &impl Print, from: &mut R, buf: &mut [u8], size: u16) {
-    let input = take(from, buf);
-    match input {
-        Input::Whole(end) => tell(to, err, front(buf, end), size),
-        Input::Failed(error) => {
+    match take(from, buf) {
+        Ok(end) => tell(to, err, front(buf, end), size),
+        Err(Unread::Failed(error)) => {
             lines::fail(err, b"slotmap: the input could not be read", error);
             expected(err);
         }
-        Input::TooLong => fault(err, b"the input has more than 1,048,576 bytes"),
+        Err(Unread::TooLong) => fault(err, b"the input has more than 1,048,576 bytes"),
     }
 }
 
 fn main(rt: HostRuntime) {
     let err = rt.stderr();
-    let size = roster(&rt, &err);
-    if size == 0 {
+    let Some(size) = roster(&rt, &err) else {
         return;
-    }
+    };
     let mut buf = [0u8; ROOM];
     run(&rt, &err, &mut rt.reader(), &mut buf, size);
 }

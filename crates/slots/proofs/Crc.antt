@@ -1,14 +1,15 @@
 -- Why a byte at a time by the table is eight bits at a time: a move of the remainder goes through xor.
 use mathlib.Core.Path.{◌≡◌, refl, sym, ap, ap₂, ◌∙◌}
-use mathlib.Core.List.{List}
+use mathlib.Core.List.{List, []}
 use Prim.Native.Nat.{ℕ, zero, suc, ◌+◌, ◌*◌, ◌/◌, ◌%◌, ◌^◌, ◌≤◌, ◌<◌}
 use mathlib.Core.Bool.{Bool, true}
-use native.Mathlib.Nat.{le_of_suc-le-suc, not-suc-le-zero, div-add-mod', add-zero, add_assoc, zero-add, mul-one}
+use native.Mathlib.Nat.{le_of_suc-le-suc, not-suc-le-zero, div-add-mod', add-zero, zero-add, mul-one}
 use native.Mathlib.Omega.{arith}
 use native.Mathlib.Numerals.{add-one}
 use lib.Dec.{eqb}
 use lib.Arith.{bin_ind, digits_mod}
 use lib.Bits.{bit_xor, differ, xor_step, xor_lt, xor_comm, xor_shr, xor_mod, xor_block, xor_shifted, xor_zero_r}
+use Rattle.std.specs.Simd.{first_chunks}
 use lib.ListN.{length, drop, get_or, drop_of_length-le}
 use lib.Seq.{drop-cons}
 use borrow.Author.Tests.{eqb-true}
@@ -16,6 +17,7 @@ use Rattle.tables.specs.Below.{every}
 use Rattle.slots.specs.Key.{polynomial, with_bit, with_bits, with_byte, with_bytes}
 use Rattle.slots.specs.Table.{ByHalfByte}
 use Rattle.tables.proofs.Below.{each}
+use Rattle.std.proofs.lemmas.List.{get_or-drop, get_or-take}
 
 bits_assoc : (x y z : ℕ) → x < 2 → y < 2 → z < 2 → differ (differ x y) z ≡ differ x (differ y z)
 bits_assoc zero y z hx hy hz = refl
@@ -178,9 +180,9 @@ pair crc first second hc hf hs =
     ∙ sym (sixteen (bit_xor x second))
     ∙ ap (with_bits 8) (linears 8 x second h (omega arith) ∙ ap (bit_xor (with_bits 8 x)) (lower second hs))
 
--- the loop over the bytes: two more, the last one, no more
+-- the loops over the bytes: one more, two more, no more
 module _ (bytes : List ℕ) (i crc : ℕ) where
-  one_more : i < length bytes → with_bytes crc (drop i bytes) ≡ with_bytes (with_byte crc (get_or bytes i 0)) (drop (i + 1) bytes)
+  pub one_more : i < length bytes → with_bytes crc (drop i bytes) ≡ with_bytes (with_byte crc (get_or bytes i 0)) (drop (i + 1) bytes)
   unfolding with_bytes
   one_more h = rw (drop-cons bytes i 0, add-one i)
 
@@ -188,12 +190,24 @@ module _ (bytes : List ℕ) (i crc : ℕ) where
   unfolding with_bytes
   no_more h = rw (drop_of_length-le bytes h)
 
-module _ (bytes : List ℕ) (i crc : ℕ) where
-  pub two_more : i + 1 < length bytes → with_bytes crc (drop i bytes) ≡ with_bytes (with_byte (with_byte crc (get_or bytes i 0)) (get_or bytes (i + 1) 0)) (drop (i + 2) bytes)
-  two_more h =
-      one_more bytes i crc (omega arith)
-      ∙ one_more bytes (i + 1) (with_byte crc (get_or bytes i 0)) h
-      ∙ ap (λ (k : ℕ). with_bytes (with_byte (with_byte crc (get_or bytes i 0)) (get_or bytes (i + 1) 0)) (drop k bytes)) (add_assoc i 1 1)
+-- a byte of a pair, in the bytes
+pub in_pair : (count i j : ℕ) (bytes : List ℕ) → i < count → j < 2 → get_or (get_or (first_chunks 2 count bytes) i []) j 0 ≡ get_or bytes (i * 2 + j) 0
+in_pair zero i j bytes hi hj = absurd (omega arith)
+in_pair (suc count) zero j bytes hi hj = rw zero-add (get_or-take 2 bytes j 0 hj)
+in_pair (suc count) (suc i) j bytes hi hj =
+    in_pair count i j (drop 2 bytes) (omega arith) hj
+    ∙ get_or-drop 2 bytes (i * 2 + j) 0
+    ∙ ap (λ (k : ℕ). get_or bytes k 0) (omega arith)
 
-  pub last_one : i < length bytes → length bytes ≤ i + 1 → with_bytes crc (drop i bytes) ≡ with_byte crc (get_or bytes i 0)
-  last_one h e = one_more bytes i crc h ∙ no_more bytes (i + 1) (with_byte crc (get_or bytes i 0)) e
+pub pair_more : (bytes : List ℕ) (i crc : ℕ) → i < length bytes / 2
+    → with_bytes crc (drop (i * 2) bytes)
+    ≡ with_bytes
+    (with_byte
+    (with_byte crc (get_or (get_or (first_chunks 2 (length bytes / 2) bytes) i []) 0 0))
+    (get_or (get_or (first_chunks 2 (length bytes / 2) bytes) i []) 1 0))
+    (drop ((i + 1) * 2) bytes)
+pair_more bytes i crc h =
+    rw (in_pair (length bytes / 2) i 0 bytes h (omega arith), in_pair (length bytes / 2) i 1 bytes h (omega arith), add-zero (i * 2))
+    (one_more bytes (i * 2) crc (omega arith)
+    ∙ one_more bytes (i * 2 + 1) (with_byte crc (get_or bytes (i * 2) 0)) (omega arith)
+    ∙ ap (λ (k : ℕ). with_bytes (with_byte (with_byte crc (get_or bytes (i * 2) 0)) (get_or bytes (i * 2 + 1) 0)) (drop k bytes)) (omega arith))

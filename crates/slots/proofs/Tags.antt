@@ -1,37 +1,35 @@
 -- The hashed part by what its two searches find.
-use mathlib.Core.Path.{◌≡◌}
-use mathlib.Core.List.{List}
-use Prim.Native.Nat.{ℕ, ◌+◌, ◌-◌}
-use native.Mathlib.Omega.{arith}
-use lib.ListN.{length, take, drop, length-drop}
-use lib.Seq.{take_all}
+use Rattle.std.proofs.Common.{◌≡◌, ℕ, ◌+◌, ◌-◌, ◌<◌, List, Option, None, Some, length, take, drop, sym, arith}
+use Rattle.std.proofs.lemmas.List.{take_rest}
 use borrow.Author.Tests.{ne_eqb}
 use Rattle.tables.specs.Lists.{first_byte}
+use Rattle.tables.proofs.Walks.{first_within}
 use Rattle.slots.specs.Key.{opening, closing, up_to_closing, after_opening, hashed_part}
-use Rattle.tables.specs.declared.Found.{Found}
-use Rattle.tables.specs.declared.Found.TheVariants.{Nothing, At}
 
--- the part from a place on, as the code lends it
-pub rest_all : (s : List ℕ) (from : ℕ) → take (length s - from) (drop from s) ≡ drop from s
-rest_all s from = take_all (length s - from) (drop from s) (omega (arith, length-drop from s))
+-- a place that a search found
+pub found_within : (byte : ℕ) (s : List ℕ) (n : ℕ) → Some n ≡ first_byte byte s → n < length s
+found_within byte s n e = omega (arith, first_within _ s 0 n (sym e))
 
-pub no_opening : (key : List ℕ) → first_byte opening key ≡ Nothing → key ≡ hashed_part key
+pub no_opening : (key : List ℕ) → None ≡ first_byte opening key → key ≡ hashed_part key
 unfolding hashed_part after_opening
-no_opening key e = rw e
+no_opening key e = rw (← e)
 
-module _ (key : List ℕ) (o : ℕ) (eo : first_byte opening key ≡ At o) (f : Found) (ef : f ≡ first_byte closing (take (length key - (o + 1)) (drop (o + 1) key))) where
-  by_closing : hashed_part key ≡ up_to_closing key (drop (o + 1) key) f
+-- the search for the `}` goes over the rest of the key, as the code lends it
+module _ (key : List ℕ) (o : ℕ) (opened : Some o ≡ first_byte opening key) where
+  by_closing : (f : Option ℕ) → f ≡ first_byte closing (take (length key - (o + 1)) (drop (o + 1) key))
+      → hashed_part key ≡ up_to_closing key (drop (o + 1) key) f
   unfolding hashed_part after_opening
-  by_closing = rw (eo, ef, rest_all key (o + 1))
+  by_closing f e = rw (← opened, e, take_rest key (o + 1))
 
-  pub no_closing : f ≡ Nothing → key ≡ hashed_part key
+  pub no_closing : None ≡ first_byte closing (take (length key - (o + 1)) (drop (o + 1) key)) → key ≡ hashed_part key
   unfolding up_to_closing
-  no_closing e = rw (by_closing, e)
+  no_closing e = rw (by_closing None e)
 
-  pub empty_tag_lem : (n : ℕ) → f ≡ At n → n ≡ 0 → key ≡ hashed_part key
-  unfolding up_to_closing
-  empty_tag_lem n e z = rw (by_closing, e, z)
+  module _ (n : ℕ) (closed : Some n ≡ first_byte closing (take (length key - (o + 1)) (drop (o + 1) key))) where
+    pub nothing_between : n ≡ 0 → key ≡ hashed_part key
+    unfolding up_to_closing
+    nothing_between z = rw (by_closing (Some n) closed, z)
 
-  pub tagged : (n : ℕ) → f ≡ At n → (n ≡ 0 → ⊥) → take n (take (length key - (o + 1)) (drop (o + 1) key)) ≡ hashed_part key
-  unfolding up_to_closing
-  tagged n e z = rw (by_closing, e, rest_all key (o + 1), ne_eqb _ _ z)
+    pub tagged : ¬ (n ≡ 0) → take n (take (length key - (o + 1)) (drop (o + 1) key)) ≡ hashed_part key
+    unfolding up_to_closing
+    tagged z = rw (by_closing (Some n) closed, take_rest key (o + 1), ne_eqb _ _ z)

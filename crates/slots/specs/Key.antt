@@ -1,10 +1,8 @@
 -- From a key to its slot: document 01, "Keys to slots".
-use Rattle.std.specs.Prelude.{ℕ, zero, suc, ◌+◌, ◌*◌, ◌/◌, ◌%◌, cond, List, [], ◌∷◌, take, drop, eqb}
+use Rattle.std.specs.Prelude.{ℕ, zero, suc, ◌+◌, ◌*◌, ◌/◌, ◌%◌, cond, List, [], ◌∷◌, take, drop, eqb, None, Option, Some}
 use Rattle.std.specs.Int.Bits.{bit_xor}
 use Rattle.tables.specs.Sizes.{slot_count}
 use Rattle.tables.specs.Lists.{first_byte}
-use Rattle.tables.specs.declared.Found.{Found}
-use Rattle.tables.specs.declared.Found.TheVariants.{Nothing, At}
 
 -- the hashed part: find the first `{`, then the first `}` after it; if both exist with at least one byte between, those
 -- bytes, otherwise the whole key
@@ -17,14 +15,14 @@ abbrev pub closing : ℕ
 closing = 0x7d
 
 -- by the first `}` of the rest, which is what stands after the `{`
-unfoldable pub up_to_closing : List ℕ → List ℕ → Found → List ℕ
-up_to_closing key rest Nothing = key
-up_to_closing key rest (At between) = cond (eqb between 0) key (take between rest)
+unfoldable pub up_to_closing : List ℕ → List ℕ → Option ℕ → List ℕ
+up_to_closing key rest None = key
+up_to_closing key rest (Some between) = cond (eqb between 0) key (take between rest)
 
 -- by the first `{` of the key
-unfoldable pub after_opening : List ℕ → Found → List ℕ
-after_opening key Nothing = key
-after_opening key (At place) = up_to_closing key (drop (place + 1) key) (first_byte closing (drop (place + 1) key))
+unfoldable pub after_opening : List ℕ → Option ℕ → List ℕ
+after_opening key None = key
+after_opening key (Some place) = up_to_closing key (drop (place + 1) key) (first_byte closing (drop (place + 1) key))
 
 unfoldable pub hashed_part : List ℕ → List ℕ
 hashed_part key = after_opening key (first_byte opening key)

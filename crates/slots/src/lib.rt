@@ -1,11 +1,11 @@
 // From a key to its slot: document 01, "Keys to slots".
 #![tactic(auto)]
 
-ghost use Rattle.std.specs.Prelude.{◌≡◌};
+ghost use Rattle.std.specs.Prelude.{◌≡◌, get_or};
 ghost use Rattle.slots.specs.Key.{hashed_part, with_bits, with_byte, crc16, key_slot};
 ghost use Rattle.slots.specs.Table.{ByHalfByte};
 
-use tables::Found;
+use table::TABLE;
 
 mod table;
 
@@ -14,12 +14,11 @@ mod table;
 pub fn hashed_part(key: &[u8]) -> &[u8]
     ensures { result.now ≡ hashed_part key.now }
 {
-    let Found::At(open) = tables::first_byte(key, b'{') else {
+    let Some(open) = tables::first_byte(key, b'{') else {
         return key;
     };
-    let start = open + 1;
-    let rest = &key[start..];
-    let Found::At(close) = tables::first_byte(rest, b'}') else {
+    let rest = &key[open + 1..];
+    let Some(close) = tables::first_byte(rest, b'}') else {
         return key;
     };
     if close == 0 {
@@ -28,45 +27,48 @@ pub fn hashed_part(key: &[u8]) -> &[u8]
     &rest[..close]
 }
 
+// The table, which has its rule.
+fn half_bytes() -> &'static [u16; 64]
+    ensures { ByHalfByte result.now }
+{
+    &TABLE
+}
+
 // What sixteen bits make of a remainder: the sum, bit by bit, of what they make of its half bytes.
-fn with_sixteen(table: &[u16; 64], crc: u16) -> u16
-    requires { ByHalfByte table.now }
+fn with_sixteen(crc: u16) -> u16
     ensures { result ≡ with_bits 16 crc }
 {
+    let table = half_bytes();
     let high = table[(48 + crc / 4096) as usize] ^ table[(32 + crc / 256 % 16) as usize];
     let low = table[(16 + crc / 16 % 16) as usize] ^ table[(crc % 16) as usize];
     high ^ low
 }
 
 // The remainder after two bytes more.
-fn with_pair(table: &[u16; 64], crc: u16, first: u8, second: u8) -> u16
-    requires { ByHalfByte table.now }
-    ensures { result ≡ with_byte (with_byte crc first) second }
+fn with_pair(crc: u16, pair: [u8; 2]) -> u16
+    ensures { result ≡ with_byte (with_byte crc (get_or pair 0 0)) (get_or pair 1 0) }
 {
-    with_sixteen(table, crc ^ ((first as u16) * 256 + (second as u16)))
+    with_sixteen(crc ^ u16::from_be_bytes(pair))
 }
 
 // The remainder after one byte more.
-fn with_byte(table: &[u16; 64], crc: u16, byte: u8) -> u16
-    requires { ByHalfByte table.now }
+fn with_byte(crc: u16, byte: u8) -> u16
     ensures { result ≡ with_byte crc byte }
 {
-    with_sixteen(table, (crc / 256) ^ (byte as u16)) ^ ((crc % 256) * 256)
+    with_sixteen((crc / 256) ^ u16::from(byte)) ^ ((crc % 256) * 256)
 }
 
-// CRC16, XMODEM form. The table is copied once and lent, since a constant that is indexed is laid out anew at each use.
+// CRC16, XMODEM form, two bytes at a time.
 pub fn crc16(bytes: &[u8]) -> u16
     ensures { result ≡ crc16 bytes.now }
 {
-    let table = table::TABLE;
+    let (pairs, last) = bytes.as_chunks::<2>();
     let mut crc: u16 = 0;
-    let mut i = 0;
-    while i + 1 < bytes.len() {
-        crc = with_pair(&table, crc, bytes[i], bytes[i + 1]);
-        i += 2;
+    for pair in pairs {
+        crc = with_pair(crc, *pair);
     }
-    if i < bytes.len() {
-        return with_byte(&table, crc, bytes[i]);
+    for byte in last {
+        crc = with_byte(crc, *byte);
     }
     crc
 }

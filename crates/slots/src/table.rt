@@ -1,8 +1,8 @@
 // Nobody has to read or believe these numbers: the rule that each of them follows is proved.
 
 // What sixteen bits of CRC16 make of each half byte that stands alone, at the bottom, 4, 8 and 12 bits up. A table of
-// whole bytes would be eight times as long, and is no faster: a constant is laid on the stack at each call.
-pub const TABLE: [u16; 64] = [
+// whole bytes would be eight times as long. A static, since a constant that is indexed is laid out anew at each use.
+pub static TABLE: [u16; 64] = [
     0x0000, 0x1021, 0x2042, 0x3063, 0x4084, 0x50a5, 0x60c6, 0x70e7, 0x8108, 0x9129, 0xa14a, 0xb16b,
     0xc18c, 0xd1ad, 0xe1ce, 0xf1ef, 0x0000, 0x1231, 0x2462, 0x3653, 0x48c4, 0x5af5, 0x6ca6, 0x7e97,
     0x9188, 0x83b9, 0xb5ea, 0xa7db, 0xd94c, 0xcb7d, 0xfd2e, 0xef1f, 0x0000, 0x3331, 0x6662, 0x5553,

@@ -1,10 +1,8 @@
 -- A heartbeat past the refusals once more, clock and currentEpoch already risen: document 01, "Heartbeat", sentence by sentence,
 -- and one slot after the other. It is the plain engine's own definition: of the fast engine's (heartbeats, ownership) it uses nothing.
-use Rattle.std.specs.Prelude.{ℕ, zero, suc, ◌+◌, ◌/◌, ◌%◌, ◌^◌, Bool, not, cond, List, [], ◌∷◌, eqb, ltb, length, get_or, set}
+use Rattle.std.specs.Prelude.{ℕ, zero, suc, ◌+◌, ◌/◌, ◌%◌, ◌^◌, Bool, not, cond, List, [], ◌∷◌, eqb, ltb, length, get_or, set, None, Option, Some}
 use Rattle.tables.specs.Sizes.{top}
 use Rattle.tables.specs.Checks.{all_of}
-use Rattle.tables.specs.declared.Found.{Found}
-use Rattle.tables.specs.declared.Found.TheVariants.{Nothing, At}
 use Rattle.answers.specs.declared.Tally.{Tally}
 use Rattle.answers.specs.declared.Answer.TheVariants.{Heard}
 use Rattle.state.specs.Node.{listed, record_at, master_at}
@@ -37,7 +35,7 @@ pub record SoFar : Type 0 where
 
 -- nothing counted, no slot named
 abbrev pub nothing : Tally
-nothing = record { bound = 0; rebound = 0; stale = Nothing }
+nothing = record { bound = 0; rebound = 0; stale = None }
 
 -- slot s, which was unowned, goes to the sender
 abbrev pub binds : ℕ → ℕ → SoFar → SoFar
@@ -54,9 +52,9 @@ rebinds sender s w = record {
 }
 
 -- slot s stays, and the sender is stale there: it is named if none was before
-abbrev pub first_of : Found → ℕ → Found
-first_of Nothing s = At s
-first_of (At t) s = At t
+abbrev pub first_of : Option ℕ → ℕ → Option ℕ
+first_of None s = Some s
+first_of (Some t) s = Some t
 
 abbrev pub finds_stale : ℕ → SoFar → SoFar
 finds_stale s w = record {

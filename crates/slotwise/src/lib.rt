@@ -2,16 +2,15 @@
 // nothing passed over. `heartbeats` has the fast engine; neither uses code of the other.
 #![tactic(auto)]
 
-ghost use Rattle.std.specs.Prelude.{◌≡◌, cond, ltb};
-ghost use Rattle.tables.specs.Sizes.{node_room};
+ghost use Rattle.std.specs.Prelude.{◌≡◌, get_or};
 ghost use Rattle.tables.specs.Checks.{all_of};
-ghost use Rattle.state.specs.Node.{record_at, master_at};
+ghost use Rattle.state.specs.Node.{blank, record_at, master_at};
 ghost use Rattle.state.specs.Changes.{with_record};
-ghost use Rattle.slotwise.specs.Slotwise.{is_claimed, first_of, all_slots, role_said, raised, tie_checks, after_tie, plain_heartbeat};
+ghost use Rattle.slotwise.specs.Slotwise.{is_claimed, all_slots, role_said, raised, tie_checks, after_tie, plain_heartbeat};
 
 use answers::{Answer, Tally};
-use state::{Flag, Moment, Node, Outcome, Record, Role};
-use tables::{Found, MOST_NODES, NODES};
+use state::{Flag, Node, Outcome, Record, Role};
+use tables::NODES;
 
 // ---- records by their numbers
 
@@ -19,19 +18,17 @@ use tables::{Found, MOST_NODES, NODES};
 fn record_at(node: Node, k: usize) -> Record
     ensures { result ≡ record_at node k }
 {
-    if k < NODES {
-        return node.records[k];
-    }
-    Record {
+    node.records.get(k).copied().unwrap_or(Record {
         role: Role::Master,
         config: 0,
-        ping: Moment::Never,
+        ping: None,
         flag: Flag::Clear,
-        vote: Moment::Never,
-    }
+        vote: None,
+    })
 }
 
 // Another record of node k; a number past the records has none.
+#[tactic(auto, unfolding(state::specs::Changes::with_records))]
 fn with_record(node: Node, k: usize, known: Record) -> Node
     ensures { result ≡ with_record k known node }
 {
@@ -48,16 +45,19 @@ fn with_record(node: Node, k: usize, known: Record) -> Node
 fn role_said(node: Node, sender: u8, role: Role) -> Node
     ensures { result ≡ role_said sender role node }
 {
-    let number = sender as usize;
-    let known = record_at(node, number);
-    with_record(node, number, changes::with_role(known, role))
+    let number = usize::from(sender);
+    with_record(
+        node,
+        number,
+        changes::with_role(record_at(node, number), role),
+    )
 }
 
 // A master's known configEpoch rises to the frame's if that is greater.
 fn raised(node: Node, sender: u8, config: u64) -> Node
     ensures { result ≡ raised sender config node }
 {
-    let number = sender as usize;
+    let number = usize::from(sender);
     let known = record_at(node, number);
     if known.config < config {
         return with_record(node, number, changes::with_config(known, config));
@@ -71,63 +71,47 @@ fn raised(node: Node, sender: u8, config: u64) -> Node
 fn is_claimed(bitmap: &[u8], s: usize) -> bool
     ensures { result ≡ is_claimed bitmap.now s }
 {
-    if s / 8 >= bitmap.len() {
-        return false;
-    }
-    (bitmap[s / 8] >> (s % 8)) % 2 == 1
+    s / 8 < bitmap.len() && (bitmap[s / 8] >> (s % 8)) % 2 == 1
 }
 
-// A slot at which the sender is stale is named if none was before.
-fn first_of(found: Found, s: usize) -> Found
-    ensures { result ≡ first_of found s }
+// The known configEpoch of an owner. The records are lent: `record_at` would copy the node for each slot.
+fn config_of(records: &[Record; NODES], owner: u16) -> u64
+    ensures { result ≡ (get_or records.now owner blank).config }
 {
-    match found {
-        Found::Nothing => Found::At(s),
-        Found::At(t) => Found::At(t),
-    }
+    records
+        .get(usize::from(owner))
+        .map_or(0, |known| known.config)
 }
 
-// The known configEpoch of an owner, by the record at the place of its number; past the records nothing is known.
-fn config_of(owner: u16, there: Record) -> u64
-    ensures { result ≡ cond (ltb owner node_room) there.config 0 }
-{
-    if owner < MOST_NODES {
-        return there.config;
-    }
-    0
-}
-
-// Every slot of the table, one after the other: what the claims leave of it, and what they come to. `record_at` would copy the node for
-// each slot, so an owner's record is read here: a remainder is always a place, and `config_of` sees whether it is the owner's.
+// Every slot of the table, one after the other: what the claims leave of it, and what they come to. A slot
+// at which the sender is stale is named if none was before.
 fn all_slots(node: Node, slots: &mut [u16], bitmap: &[u8], sender: u8, config: u64) -> Tally
     ensures { record { tally = result; slots = slots.new } ≡ all_slots node sender config bitmap.now slots.old }
 {
-    let mut bound: usize = 0;
-    let mut rebound: usize = 0;
-    let mut stale = Found::Nothing;
-    for s in 0..slots.len() {
-        if is_claimed(bitmap, s) {} else {
+    let sender = u16::from(sender);
+    let mut bound = 0;
+    let mut rebound = 0;
+    let mut stale = None;
+    for (s, owner) in slots.iter_mut().enumerate() {
+        if !is_claimed(bitmap, s) {
             continue;
         }
-        let owner = slots[s];
-        if owner >= node.size {
-            slots[s] = sender as u16;
+        if *owner >= node.size {
+            *owner = sender;
             bound += 1;
             continue;
         }
-        if owner == sender as u16 {
+        if *owner == sender {
             continue;
         }
-        let there = node.records[owner as usize % NODES];
-        let known = config_of(owner, there);
+        let known = config_of(&node.records, *owner);
         if known < config {
-            slots[s] = sender as u16;
+            *owner = sender;
             rebound += 1;
             continue;
         }
         if known > config {
-            stale = first_of(stale, s);
-            continue;
+            stale = stale.or(Some(s));
         }
     }
     Tally {
@@ -143,43 +127,30 @@ fn all_slots(node: Node, slots: &mut [u16], bitmap: &[u8], sender: u8, config: u
 fn master_at(node: Node, k: u16) -> bool
     ensures { result ≡ master_at node k }
 {
-    if k >= node.size {
-        return false;
-    }
-    let known = record_at(node, k as usize);
-    let role = known.role;
-    state::is_master(role)
+    k < node.size && state::is_master(record_at(node, usize::from(k)).role)
 }
 
 // Whether this node gives way at a tie, and takes a new epoch.
 fn gives_way(node: Node, sender: u8, config: u64) -> bool
     ensures { result ≡ all_of (tie_checks sender config node) }
 {
-    let number = sender as u16;
-    if master_at(node, node.me) {} else {
-        return false;
-    }
-    if master_at(node, number) {} else {
-        return false;
-    }
-    let mine = record_at(node, node.me as usize);
-    if config != mine.config {
-        return false;
-    }
-    if node.me >= number {
-        return false;
-    }
-    node.current < tables::TOP
+    let number = u16::from(sender);
+    master_at(node, node.me)
+        && master_at(node, number)
+        && config == record_at(node, usize::from(node.me)).config
+        && node.me < number
+        && node.current < tables::TOP
 }
 
 // The tie: currentEpoch goes up by 1 and becomes our configEpoch, or nothing changes.
+#[tactic(auto, unfolding(crate::specs::Slotwise::after_tie, state::specs::Changes::with_current))]
 fn after_tie(node: Node, sender: u8, config: u64) -> Node
     ensures { result ≡ after_tie sender config node }
 {
-    if gives_way(node, sender, config) {} else {
+    if !gives_way(node, sender, config) {
         return node;
     }
-    let me = node.me as usize;
+    let me = usize::from(node.me);
     let epoch = node.current + 1;
     let mine = record_at(node, me);
     let mut next = with_record(node, me, changes::with_config(mine, epoch));
@@ -190,6 +161,7 @@ fn after_tie(node: Node, sender: u8, config: u64) -> Node
 // ---- the heartbeat
 
 // A heartbeat past the refusals: the sender's role, of a master its configEpoch and its claims, and last the tie.
+#[tactic(auto, unfolding(crate::specs::Slotwise::plain_heartbeat))]
 pub fn heartbeat(
     node: Node,
     slots: &mut [u16],
@@ -206,7 +178,7 @@ pub fn heartbeat(
             let none = Tally {
                 bound: 0,
                 rebound: 0,
-                stale: Found::Nothing,
+                stale: None,
             };
             Outcome {
                 answer: Answer::Heard(none),

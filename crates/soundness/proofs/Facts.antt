@@ -1,4 +1,5 @@
 -- What a sound state has, one fact at a time, so that no caller opens the definition.
+use Rattle.std.specs.Prelude.{None, Option, Some}
 use mathlib.Core.Path.{◌≡◌, refl, sym, ap, ◌∙◌}
 use mathlib.Core.Bool.{true, false, not}
 use mathlib.Core.List.{[], ◌∷◌}
@@ -14,12 +15,12 @@ use Rattle.state.specs.Node.{record_at, mark_at, id_at, is_master}
 use Rattle.state.specs.declared.Node.{Node}
 use Rattle.state.specs.declared.Role.TheVariants.{Replica}
 use Rattle.state.specs.declared.Election.{Election}
-use Rattle.state.specs.declared.Election.TheVariants.{Closed, Open}
 use Rattle.soundness.specs.Sound.{sound, sound_checks, arrays_whole, bounds_kept, bound_checks, ids_ascend, id_in_order, before, follow_sound, moment_sound, flag_sound, record_checks, record_sound, record_sound_at, records_sound, election_sound, election_checks, marks_ascend, slot_in_order, marks_sound, mark_sound, mark_sound_at, own_clear}
 use Rattle.soundness.specs.SoundStates.{OpenElection}
 use Rattle.nodesets.specs.NodeSets.{within, below}
 use Rattle.nodesets.specs.Members.{Fits}
 use Rattle.nodesets.specs.declared.NodeSet.{NodeSet}
+use Rattle.state.specs.Node.{an_election}
 use Rattle.nodesets.proofs.Members.{part_in, below_in, fits_below, part_fits}
 
 module _ (n : Node) (h : sound n ≡ true) where
@@ -133,19 +134,19 @@ module _ (n : Node) (h : sound n ≡ true) where
   election_is_sound = sound_part 6
 
   -- a master has none open
-  pub master_closed : is_master (record_at n n.me).role ≡ true → n.election ≡ Closed
+  pub master_closed : is_master (record_at n n.me).role ≡ true → n.election ≡ None
   unfolding election_sound
   master_closed m = by n.election election_is_sound
     where
-      by : (x : Election) → election_sound n x ≡ true → x ≡ Closed
-      by Closed s = refl
-      by (Open a b c d) s =
-          let f : not (is_master (record_at n n.me).role) ≡ true = part 0 (election_checks n a b c d) s in
+      by : (x : Option Election) → election_sound n x ≡ true → x ≡ None
+      by None s = refl
+      by (Some e) s =
+          let f : not (is_master (record_at n n.me).role) ≡ true = part 0 (election_checks n e.epoch e.opened e.voters e.heard) s in
           let g : true ≡ false = sym m ∙ not-true _ f in
           let z : ◌≡◌ {A = ℕ} 0 1 = cc in absurd (omega arith)
 
 -- what an open one has
-module _ (n : Node) (epoch opened : ℕ) (voters heard : NodeSet) (h : election_sound n (Open epoch opened voters heard) ≡ true) where
+module _ (n : Node) (epoch opened : ℕ) (voters heard : NodeSet) (h : election_sound n (an_election epoch opened voters heard) ≡ true) where
   open_part : (k : ℕ) → get_or (election_checks n epoch opened voters heard) k true ≡ true
   unfolding election_sound
   open_part k = part k (election_checks n epoch opened voters heard) h
@@ -175,7 +176,7 @@ module _ (n : Node) (epoch opened : ℕ) (voters heard : NodeSet) (h : election_
 -- number by number
 pub open_election : (n : Node) → OpenElection n
 open_election n h epoch opened voters heard e =
-    let s : election_sound n (Open epoch opened voters heard) ≡ true = ap (election_sound n) (sym e) ∙ election_is_sound n h in
+    let s : election_sound n (an_election epoch opened voters heard) ≡ true = ap (election_sound n) (sym e) ∙ election_is_sound n h in
     record {
       listed = below_in voters n.size (open_voters n epoch opened voters heard s);
       heard_within = part_in heard voters (open_heard n epoch opened voters heard s);

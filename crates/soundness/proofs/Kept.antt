@@ -1,4 +1,5 @@
 -- Which changes keep a sound state sound.
+use Rattle.std.specs.Prelude.{None, Option, Some}
 use mathlib.Core.Path.{◌≡◌, refl, sym, ap, ◌∙◌}
 use mathlib.Core.Bool.{Bool, true, false, cond}
 use mathlib.Core.Logic.{◌⊎◌, inl, inr}
@@ -20,16 +21,14 @@ use Rattle.state.specs.declared.Node.{Node}
 use Rattle.state.specs.declared.Record.{Record}
 use Rattle.state.specs.declared.Mark.{Mark}
 use Rattle.state.specs.declared.Role.{Role}
-use Rattle.state.specs.declared.Moment.{Moment}
-use Rattle.state.specs.declared.Moment.TheVariants.{Never, At}
 use Rattle.state.specs.declared.Flag.{Flag}
 use Rattle.state.specs.declared.Flag.TheVariants.{Clear, Pfail, Fail}
 use Rattle.state.specs.declared.Election.{Election}
-use Rattle.state.specs.declared.Election.TheVariants.{Closed, Open}
 use Rattle.soundness.specs.Sound.{sound, arrays_whole, bounds_kept, ids_ascend, follow_sound, moment_sound, flag_sound, record_checks, record_sound, record_sound_at, records_sound, election_sound, election_checks, marks_ascend, marks_sound, own_clear}
 use Rattle.soundness.proofs.Facts.{sound_part, bound_part, all_ids, all_records, few_nodes, clock_bounded, current_bounded, me_listed, record_is_sound, election_is_sound, master_closed, heard_fit}
 use Rattle.nodesets.specs.NodeSets.{none, has, added, below}
 use Rattle.nodesets.specs.declared.NodeSet.{NodeSet}
+use Rattle.state.specs.Node.{an_election}
 use Rattle.nodesets.proofs.Members.{gathered_below, none_within, within_added}
 
 -- all the parts together
@@ -38,15 +37,15 @@ unfolding sound
 rebuilt n a b c d e f g i j k = rw (a, b, c, d, e, f, g, i, j) k
 
 -- an election is as sound in another node of the same size, clock, currentEpoch and own role
-pub election_like : (a b : Node) → a.size ≡ b.size → a.clock ≡ b.clock → a.current ≡ b.current → (record_at a a.me).role ≡ (record_at b b.me).role → (x : Election) → election_sound a x ≡ election_sound b x
+pub election_like : (a b : Node) → a.size ≡ b.size → a.clock ≡ b.clock → a.current ≡ b.current → (record_at a a.me).role ≡ (record_at b b.me).role → (x : Option Election) → election_sound a x ≡ election_sound b x
 unfolding election_sound
-election_like a b s c d r Closed = refl
-election_like a b s c d r (Open epoch opened voters heard) = rw (s, c, d, r)
+election_like a b s c d r None = refl
+election_like a b s c d r (Some e) = rw (s, c, d, r)
 
 -- ---- an open election
 
 -- one of a replica, with a set within the roster and none heard
-pub opened_election : (n : Node) (epoch opened : ℕ) (voters : NodeSet) → is_master (record_at n n.me).role ≡ false → epoch ≤ n.current → opened ≤ n.clock → below voters n.size ≡ true → election_sound n (Open epoch opened voters none) ≡ true
+pub opened_election : (n : Node) (epoch opened : ℕ) (voters : NodeSet) → is_master (record_at n n.me).role ≡ false → epoch ≤ n.current → opened ≤ n.clock → below voters n.size ≡ true → election_sound n (an_election epoch opened voters none) ≡ true
 unfolding election_sound
 opened_election n epoch opened voters m e t v = rw (m, le-leb epoch n.current e, le-leb opened n.clock t, v) (none_within voters)
 
@@ -59,7 +58,7 @@ voting_below n slots = gathered_below (voting_master n slots) n.size (λ k e. lt
     first false u e = e
 
 -- one ack more of a voter of the set
-pub heard_election : (n : Node) (epoch opened : ℕ) (voters heard : NodeSet) (v : ℕ) → election_sound n (Open epoch opened voters heard) ≡ true → has voters v ≡ true → election_sound n (Open epoch opened voters (added heard v)) ≡ true
+pub heard_election : (n : Node) (epoch opened : ℕ) (voters heard : NodeSet) (v : ℕ) → election_sound n (an_election epoch opened voters heard) ≡ true → has voters v ≡ true → election_sound n (an_election epoch opened voters (added heard v)) ≡ true
 unfolding election_sound
 heard_election n epoch opened voters heard v s e =
     let q = election_checks n epoch opened voters heard in let p : (i : ℕ) → get_or q i true ≡ true = λ i. part i q s in
@@ -77,13 +76,13 @@ module _ (size clock current k : ℕ) (r : Record) (h : record_sound size clock 
   pub config_kept : (x : ℕ) → x ≤ current → record_sound size clock current k (with_config x r) ≡ true
   config_kept x l = rw (piece 0, piece 1, piece 2, piece 3) (le-leb x current l)
 
-  pub ping_kept : (x : Moment) → moment_sound clock x ≡ true → record_sound size clock current k (with_ping x r) ≡ true
+  pub ping_kept : (x : Option ℕ) → moment_sound clock x ≡ true → record_sound size clock current k (with_ping x r) ≡ true
   ping_kept x e = rw (piece 0, e, piece 2, piece 3) (piece 4)
 
   pub flag_kept : (x : Flag) → flag_sound clock x ≡ true → record_sound size clock current k (with_flag x r) ≡ true
   flag_kept x e = rw (piece 0, piece 1, e, piece 3) (piece 4)
 
-  pub vote_kept : (x : Moment) → moment_sound clock x ≡ true → record_sound size clock current k (with_vote x r) ≡ true
+  pub vote_kept : (x : Option ℕ) → moment_sound clock x ≡ true → record_sound size clock current k (with_vote x r) ≡ true
   vote_kept x e = rw (piece 0, piece 1, piece 2, e) (piece 4)
 
 -- ---- the clock goes on and currentEpoch rises
@@ -91,9 +90,9 @@ module _ (size clock current k : ℕ) (r : Record) (h : record_sound size clock 
 later : (x c t : ℕ) → c ≤ t → leb x c ≡ true → leb x t ≡ true
 later x c t l h = le-leb x t (le_trans (leb-true x c h) l)
 
-moment_later : (c t : ℕ) → c ≤ t → (x : Moment) → moment_sound c x ≡ true → moment_sound t x ≡ true
-moment_later c t l Never s = refl
-moment_later c t l (At x) s = later x c t l s
+moment_later : (c t : ℕ) → c ≤ t → (x : Option ℕ) → moment_sound c x ≡ true → moment_sound t x ≡ true
+moment_later c t l None s = refl
+moment_later c t l (Some x) s = later x c t l s
 
 flag_later : (c t : ℕ) → c ≤ t → (x : Flag) → flag_sound c x ≡ true → flag_sound t x ≡ true
 flag_later c t l Clear s = refl
@@ -105,7 +104,7 @@ record_later size c t a e k r l g s = let p = piece size c a k r s in rw (p 0, m
 
 -- ---- the election
 
-pub election_sound_lem : (n : Node) → sound n ≡ true → (x : Election) → election_sound n x ≡ true → sound (with_election x n) ≡ true
+pub election_sound_lem : (n : Node) → sound n ≡ true → (x : Option Election) → election_sound n x ≡ true → sound (with_election x n) ≡ true
 unfolding with_election arrays_whole bounds_kept ids_ascend records_sound marks_ascend marks_sound
 election_sound_lem n h x s =
     let p = sound_part n h in
@@ -124,12 +123,12 @@ module _ (n : Node) (h : sound n ≡ true) where
     unfolding records_sound with_clock with_current
     records_later = gather (record_sound_at next) n.size (λ k i. record_later n.size n.clock t n.current e k (record_at n k) l g (record_is_sound n h k i))
 
-    election_later : (x : Election) → election_sound n x ≡ true → election_sound next x ≡ true
+    election_later : (x : Option Election) → election_sound n x ≡ true → election_sound next x ≡ true
     unfolding election_sound with_clock with_current
-    election_later Closed s = refl
-    election_later (Open a b c d) s =
-        let q = election_checks n a b c d in let p : (i : ℕ) → get_or q i true ≡ true = λ i. part i q s in
-        rw (p 0, later a n.current e g (p 1), later b n.clock t l (p 2), p 3) (p 4)
+    election_later None s = refl
+    election_later (Some x) s =
+        let q = election_checks n x.epoch x.opened x.voters x.heard in let p : (i : ℕ) → get_or q i true ≡ true = λ i. part i q s in
+        rw (p 0, later x.epoch n.current e g (p 1), later x.opened n.clock t l (p 2), p 3) (p 4)
 
     pub later_sound : t < time_end → e ≤ top → sound (with_clock t (with_current e n)) ≡ true
     unfolding with_clock with_current arrays_whole ids_ascend marks_ascend marks_sound
@@ -163,17 +162,17 @@ module _ (n : Node) (h : sound n ≡ true) where
 
   -- ---- the election
 
-  pub closed_sound : sound (with_election Closed n) ≡ true
+  pub closed_sound : sound (with_election None n) ≡ true
   unfolding election_sound
-  closed_sound = election_sound_lem n h Closed refl
+  closed_sound = election_sound_lem n h None refl
 
   -- a replica's opening: currentEpoch goes up by 1 and is its epoch, its set is the voting masters, none heard
-  pub opening_sound : (slots : List ℕ) → is_master (record_at n n.me).role ≡ false → n.current < top → sound (with_election (Open (n.current + 1) n.clock (voting_masters n slots) none) (with_current (n.current + 1) n)) ≡ true
+  pub opening_sound : (slots : List ℕ) → is_master (record_at n n.me).role ≡ false → n.current < top → sound (with_election (an_election (n.current + 1) n.clock (voting_masters n slots) none) (with_current (n.current + 1) n)) ≡ true
   unfolding with_current
   opening_sound slots m l =
       let e = n.current + 1 in
       let voters = voting_masters n slots in
-      election_sound_lem (with_current e n) (current_sound e (omega arith) (omega arith)) (Open e n.clock voters none)
+      election_sound_lem (with_current e n) (current_sound e (omega arith) (omega arith)) (an_election e n.clock voters none)
       (opened_election (with_current e n) e n.clock voters m (omega arith) (omega arith) (voting_below n slots))
 
   -- ---- marks
@@ -225,19 +224,19 @@ module _ (n : Node) (h : sound n ≡ true) where
         let e = own_kept d in
         joined (sym (election_like n then refl refl refl (ap (λ (x : Record). x.role) (sym e)) n.election) ∙ election_is_sound n h) (ap own_clear e ∙ sound_part n h 9)
 
-    election_kept : is_master (record_at then n.me).role ≡ false → (x : Election) → election_sound n x ≡ true → election_sound then x ≡ true
+    election_kept : is_master (record_at then n.me).role ≡ false → (x : Option Election) → election_sound n x ≡ true → election_sound then x ≡ true
     unfolding election_sound with_records
-    election_kept m Closed s = refl
-    election_kept m (Open a b c d) s =
-        let q = election_checks n a b c d in let p : (i : ℕ) → get_or q i true ≡ true = λ i. part i q s in
+    election_kept m None s = refl
+    election_kept m (Some e) s =
+        let q = election_checks n e.epoch e.opened e.voters e.heard in let p : (i : ℕ) → get_or q i true ≡ true = λ i. part i q s in
         rw (m, p 1, p 2, p 3) (p 4)
 
     -- any: this node's own has no flag and no pending ping, and is a replica's while an election is open
-    pub record_sound_lem : (k ≡ n.me → (own_clear r ≡ true) × ((n.election ≡ Closed) ⊎ (is_master r.role ≡ false))) → sound (with_record k r n) ≡ true
+    pub record_sound_lem : (k ≡ n.me → (own_clear r ≡ true) × ((n.election ≡ None) ⊎ (is_master r.role ≡ false))) → sound (with_record k r n) ≡ true
     unfolding election_sound
     record_sound_lem c = by (ℕ_discrete k n.me)
       where
-        fits : k ≡ n.me → (n.election ≡ Closed) ⊎ (is_master r.role ≡ false) → election_sound then n.election ≡ true
+        fits : k ≡ n.me → (n.election ≡ None) ⊎ (is_master r.role ≡ false) → election_sound then n.election ≡ true
         fits e (inl q) = rw q
         fits e (inr m) = election_kept (ap (λ (x : Record). is_master x.role) (own_changed e) ∙ m) n.election (election_is_sound n h)
 
@@ -249,11 +248,11 @@ module _ (n : Node) (h : sound n ≡ true) where
     pub same_role_sound : is_master r.role ≡ is_master (record_at n k).role → (k ≡ n.me → own_clear r ≡ true) → sound (with_record k r n) ≡ true
     same_role_sound m o = record_sound_lem (λ e. (o e, by e (is_master r.role) refl))
       where
-        by : k ≡ n.me → (t : Bool) → t ≡ is_master r.role → (n.election ≡ Closed) ⊎ (is_master r.role ≡ false)
+        by : k ≡ n.me → (t : Bool) → t ≡ is_master r.role → (n.election ≡ None) ⊎ (is_master r.role ≡ false)
         by e true q = inl (master_closed n h (ap (λ (j : ℕ). is_master (record_at n j).role) (sym e) ∙ sym m ∙ sym q))
         by e false q = inr (sym q)
 
 -- a record changed and the election closed at once: this node's own may become a master's
-pub closing_sound : (n : Node) → sound n ≡ true → (k : ℕ) (r : Record) → (k < n.size → record_sound n.size n.clock n.current k r ≡ true) → (k ≡ n.me → own_clear r ≡ true) → sound (with_election Closed (with_record k r n)) ≡ true
+pub closing_sound : (n : Node) → sound n ≡ true → (k : ℕ) (r : Record) → (k < n.size → record_sound n.size n.clock n.current k r ≡ true) → (k ≡ n.me → own_clear r ≡ true) → sound (with_election None (with_record k r n)) ≡ true
 unfolding with_election with_records
-closing_sound n h k r f o = record_sound_lem (with_election Closed n) (closed_sound n h) k r f (λ e. (o e, inl refl))
+closing_sound n h k r f o = record_sound_lem (with_election None n) (closed_sound n h) k r f (λ e. (o e, inl refl))

@@ -1,5 +1,5 @@
 -- When a state is sound: document 01, "The node and what it holds", the paragraph of the bounds, in its order.
-use Rattle.std.specs.Prelude.{ℕ, ◌+◌, ◌-◌, Bool, true, false, cond, not, List, [], ◌∷◌, eqb, ltb, leb, length}
+use Rattle.std.specs.Prelude.{ℕ, ◌+◌, ◌-◌, Bool, true, false, cond, not, List, [], ◌∷◌, eqb, ltb, leb, length, None, Option, Some}
 use Rattle.tables.specs.Checks.{all_of}
 use Rattle.tables.specs.Below.{every}
 use Rattle.tables.specs.Sizes.{slot_count, node_room, mark_room, top, time_end, least_timeout, most_timeout}
@@ -13,10 +13,7 @@ use Rattle.state.specs.declared.Role.{Role}
 use Rattle.state.specs.declared.Role.TheVariants.{Master, Replica}
 use Rattle.state.specs.declared.Flag.{Flag}
 use Rattle.state.specs.declared.Flag.TheVariants.{Clear, Pfail, Fail}
-use Rattle.state.specs.declared.Moment.{Moment}
-use Rattle.state.specs.declared.Moment.TheVariants.{Never, At}
 use Rattle.state.specs.declared.Election.{Election}
-use Rattle.state.specs.declared.Election.TheVariants.{Closed, Open}
 
 -- ---- the bounds and the counts
 
@@ -63,9 +60,9 @@ follow_sound size k Master = true
 follow_sound size k (Replica m) = all_of (ltb m size ∷ not (eqb m k) ∷ [])
 
 -- no stored time passes the latest clock: a pending ping or a vote, and when FAIL was set
-abbrev pub moment_sound : ℕ → Moment → Bool
-moment_sound clock Never = true
-moment_sound clock (At t) = leb t clock
+abbrev pub moment_sound : ℕ → Option ℕ → Bool
+moment_sound clock None = true
+moment_sound clock (Some t) = leb t clock
 
 abbrev pub flag_sound : ℕ → Flag → Bool
 flag_sound clock Clear = true
@@ -104,9 +101,9 @@ election_checks n epoch opened voters heard =
     ∷ within heard voters
     ∷ []
 
-unfoldable pub election_sound : Node → Election → Bool
-election_sound n Closed = true
-election_sound n (Open epoch opened voters heard) = all_of (election_checks n epoch opened voters heard)
+unfoldable pub election_sound : Node → Option Election → Bool
+election_sound n None = true
+election_sound n (Some e) = all_of (election_checks n e.epoch e.opened e.voters e.heard)
 
 -- ---- marks
 
@@ -129,9 +126,9 @@ marks_sound n = every n.marked (mark_sound_at n)
 
 -- ---- this node itself: no flag and no pending ping of its own
 
-abbrev pub is_never : Moment → Bool
-is_never Never = true
-is_never (At t) = false
+abbrev pub is_never : Option ℕ → Bool
+is_never None = true
+is_never (Some t) = false
 
 unfoldable pub own_clear : Record → Bool
 own_clear r = all_of (is_clear r.flag ∷ is_never r.ping ∷ [])

@@ -5,7 +5,7 @@ use Rattle.nodesets.specs.NodeSets.{has}
 use Rattle.nodesets.specs.declared.NodeSet.{NodeSet}
 use Rattle.state.specs.Same.{Same}
 use Rattle.state.specs.declared.Node.{Node}
-use Rattle.state.specs.declared.Election.TheVariants.{Open}
+use Rattle.state.specs.Node.{an_election}
 use Rattle.soundness.specs.Sound.{sound, arrays_whole}
 
 -- an election's sets
@@ -17,7 +17,7 @@ pub record ElectionSets (n : Node) (voters heard : NodeSet) : Type 0 where
 
 -- the open election of a sound node
 abbrev pub OpenElection : Node → Type 0
-OpenElection n = sound n ≡ true → (epoch opened : ℕ) (voters heard : NodeSet) → n.election ≡ Open epoch opened voters heard → ElectionSets n voters heard
+OpenElection n = sound n ≡ true → (epoch opened : ℕ) (voters heard : NodeSet) → n.election ≡ an_election epoch opened voters heard → ElectionSets n voters heard
 
 -- of two nodes in the same state both are sound or neither; the arrays of both are whole, as in every node of the program
 abbrev pub SameSound : Node → Node → Type 0

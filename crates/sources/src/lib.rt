@@ -8,7 +8,8 @@ ghost use Rattle.sources.specs.Sources.{further, next, between, so_far, read_as,
 use scraps::Kept;
 use std::io::Read;
 
-// Where lines are read from, and the next one.
+// Where lines are read from, and the next one. The characters are there whether a line was found or not, so the flags are no
+// Options.
 #[derive(Clone, Copy)]
 pub struct Source {
     // The file's descriptor. Its bytes come from a reader, which `next_line` is given.
@@ -46,31 +47,24 @@ pub fn opened(fd: i32, end: usize) -> Source
 fn next(count: u64) -> u64
     ensures { result ≡ next count }
 {
-    if count < u64::MAX {
-        return count + 1;
-    }
-    0
+    count.wrapping_add(1)
 }
 
 // A place so much further on.
 pub fn further(place: usize, used: usize) -> usize
     ensures { result ≡ further place used }
 {
-    if used > usize::MAX - place {
-        return usize::MAX;
-    }
-    place + used
+    place.saturating_add(used)
 }
 
 // What is kept of the line so far: nothing where the last one has ended.
 fn begun(past: Source) -> Kept
     ensures { part_of result ≡ so_far past.found (part_of past.kept) }
 {
-    let kept = past.kept;
     if past.found {
         return scraps::none();
     }
-    kept
+    past.kept
 }
 
 // How many lines there were, with one that may have ended.
@@ -88,16 +82,12 @@ fn taken(past: Source, rest: &[u8]) -> Source
     ensures { read_as result ≡ takes_on (read_as past) rest.now }
 {
     let gathered = scraps::gather(begun(past), rest);
-    let kept = gathered.kept;
     Source {
-        fd: past.fd,
         found: gathered.ended,
-        kept,
+        kept: gathered.kept,
         rest: further(past.rest, gathered.used),
-        end: past.end,
         count: counted(past.count, gathered.ended),
-        closed: past.closed,
-        ended: past.ended,
+        ..past
     }
 }
 
@@ -105,16 +95,19 @@ fn taken(past: Source, rest: &[u8]) -> Source
 fn close(past: Source) -> Source
     ensures { result ≡ closes past }
 {
-    let kept = past.kept;
-    let mut here = past;
-    here.closed = true;
-    if kept.length > 0 {
-        here.found = true;
-        here.count = next(past.count);
-        return here;
+    if past.kept.length == 0 {
+        return Source {
+            closed: true,
+            ended: true,
+            ..past
+        };
     }
-    here.ended = true;
-    here
+    Source {
+        closed: true,
+        found: true,
+        count: next(past.count),
+        ..past
+    }
 }
 
 // Reads once. Where reading fails the reason is named, and what came before it counts.
@@ -122,12 +115,16 @@ fn close(past: Source) -> Source
 fn more<R: Read>(input: &mut R, err: &impl Print, buf: &mut [u8], past: Source) -> Source
     ensures { part_of result.kept ≡ part_of past.kept }
 {
-    let mut here = past;
-    here.rest = 0;
-    here.end = 0;
+    let here = Source {
+        rest: 0,
+        end: 0,
+        ..past
+    };
     if past.closed {
-        here.ended = true;
-        return here;
+        return Source {
+            ended: true,
+            ..here
+        };
     }
     match input.read(buf) {
         Err(error) => {
@@ -135,10 +132,7 @@ fn more<R: Read>(input: &mut R, err: &impl Print, buf: &mut [u8], past: Source) 
             close(here)
         }
         Ok(0) => close(here),
-        Ok(got) => {
-            here.end = got;
-            here
-        }
+        Ok(got) => Source { end: got, ..here },
     }
 }
 
@@ -167,13 +161,7 @@ pub fn next_line<R: Read>(
 pub fn part(buf: &[u8], from: usize, to: usize) -> &[u8]
     ensures { result.now ≡ between buf.now from to }
 {
-    if to > buf.len() {
-        return &buf[..0];
-    }
-    if from > to {
-        return &buf[..0];
-    }
-    &buf[from..to]
+    buf.get(from..to).unwrap_or(&[])
 }
 
 // The characters that are kept of a line; none of one that is too long.

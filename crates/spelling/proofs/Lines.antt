@@ -8,9 +8,7 @@ use native.Mathlib.Numerals.{add-one}
 use lib.ListN.{length, take, drop, get_or, set, length-set, drop_of_length-le}
 use lib.Seq.{drop-cons, take-suc-set, get_or-set_other}
 use borrow.Author.Tests.{lt-ltb, le-ltb}
-use Rattle.spelling.specs.Lines.{digit_of, Line, key, bad, onto, read, Within}
-use Rattle.spelling.specs.declared.Spelled.{Spelled}
-use Rattle.spelling.specs.declared.Spelled.TheVariants.{Key}
+use Rattle.spelling.specs.Lines.{digit_of, Line, key, bad, onto, read}
 
 onto_onto : (a b : List ℕ) (line : Line) → onto a (onto b line) ≡ onto (a ++ b) line
 onto_onto a b (key k) = ap key (sym (append_assoc a b k))
@@ -99,9 +97,3 @@ module _ {was is : List ℕ} {n : ℕ} (d : Decoded was is n) where
 
   pub whole : length is ≤ 2 * n → key (take n is) ≡ read was
   whole e = sym (rw (d.done, even_end was (2 * n) (omega (arith, d.same))) (ap key (append-nil (take n is))))
-
-  pub room : n ≤ length is
-  room = omega (arith, d.same, d.fits)
-
-pub within_key : (r : Spelled) (n : ℕ) (bytes : List ℕ) → r ≡ Key n → Within r bytes → n ≤ length bytes
-within_key r n bytes e w = rw e at w

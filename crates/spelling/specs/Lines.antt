@@ -1,10 +1,6 @@
 -- What a line of the program's input is answered.
-use Rattle.std.specs.Prelude.{ℕ, ◌+◌, ◌-◌, ◌*◌, ◌≤◌, cond, List, [], ◌∷◌, ◌++◌, length, take, ltb, leb}
+use Rattle.std.specs.Prelude.{ℕ, ◌+◌, ◌-◌, ◌*◌, ◌≤◌, cond, List, [], ◌∷◌, ◌++◌, length, take, ltb, leb, None, Option, Some}
 use Rattle.slots.specs.Key.{key_slot}
-use Rattle.spelling.specs.declared.Spelled.{Spelled}
-use Rattle.spelling.specs.declared.Spelled.TheVariants.{Key, Nothing}
-use Rattle.spelling.specs.declared.Reply.{Reply}
-use Rattle.spelling.specs.declared.Reply.TheVariants.{Slot, Bad}
 
 -- the value of a lowercase hexadecimal digit, 16 for any other byte
 unfoldable pub digit_of : ℕ → ℕ
@@ -28,15 +24,15 @@ read (x ∷ y ∷ rest) =
     cond (ltb 15 (digit_of x)) bad (cond (ltb 15 (digit_of y)) bad (onto ((digit_of x * 16 + digit_of y) ∷ []) (read rest)))
 
 -- the same, as the code leaves it in the line's place
-abbrev pub left : Spelled → List ℕ → Line
-left (Key n) bytes = key (take n bytes)
-left Nothing bytes = bad
+abbrev pub left : Option ℕ → List ℕ → Line
+left (Some n) bytes = key (take n bytes)
+left None bytes = bad
 
-abbrev pub Within : Spelled → List ℕ → Type 0
-Within (Key n) bytes = n ≤ length bytes
-Within Nothing bytes = Unit {0}
+abbrev pub Within : Option ℕ → List ℕ → Type 0
+Within (Some n) bytes = n ≤ length bytes
+Within None bytes = Unit {0}
 
 -- the line's answer
-abbrev pub reply_of : Line → Reply
-reply_of (key k) = Slot (key_slot k)
-reply_of bad = Bad
+abbrev pub reply_of : Line → Option ℕ
+reply_of (key k) = Some (key_slot k)
+reply_of bad = None

@@ -4,68 +4,41 @@
 ghost use Rattle.std.specs.Prelude.{◌≡◌};
 ghost use Rattle.spelling.specs.Lines.{digit_of, read, left, Within, reply_of};
 
-// What a line spells: a key of so many bytes, or none.
-#[derive(Clone, Copy)]
-enum Spelled {
-    Key(usize),
-    Nothing,
-}
-
-// What a line is answered.
-#[derive(Clone, Copy)]
-pub enum Reply {
-    Slot(u16),
-    Bad,
-}
-
-// The value of a digit, or 16.
+// The value of a digit, or 16: the definition's, which is no Option.
+#[tactic(auto, unfolding(crate::specs::Lines::digit_of))]
 fn digit(c: u8) -> u8
     ensures { result ≡ digit_of c }
 {
-    if c < b'0' {
-        return 16;
+    match c {
+        b'0'..=b'9' => c - b'0',
+        b'a'..=b'f' => c - b'a' + 10,
+        _ => 16,
     }
-    if c <= b'9' {
-        return c - b'0';
-    }
-    if c < b'a' {
-        return 16;
-    }
-    if c <= b'f' {
-        return c - b'a' + 10;
-    }
-    16
 }
 
 // Puts the key that the line spells in the line's place, from its start on.
-fn decode(line: &mut [u8]) -> Spelled
+fn decode(line: &mut [u8]) -> Option<usize>
     ensures { (left result line.new ≡ read line.old) × Within result line.new }
 {
-    let mut n: usize = 0;
-    while 2 * n + 1 < line.len() {
+    let count = line.len() / 2;
+    for n in 0..count {
         let high = digit(line[2 * n]);
         let low = digit(line[2 * n + 1]);
-        if high > 15 {
-            return Spelled::Nothing;
-        }
-        if low > 15 {
-            return Spelled::Nothing;
+        if high > 15 || low > 15 {
+            return None;
         }
         line[n] = high * 16 + low;
-        n += 1;
     }
-    if 2 * n < line.len() {
-        return Spelled::Nothing;
+    if line.len() % 2 == 1 {
+        return None;
     }
-    Spelled::Key(n)
+    Some(count)
 }
 
 // The answer to a line.
-pub fn slot_of(line: &mut [u8]) -> Reply
+pub fn slot_of(line: &mut [u8]) -> Option<u16>
     ensures { result ≡ reply_of (read line.old) }
 {
-    let Spelled::Key(n) = decode(line) else {
-        return Reply::Bad;
-    };
-    Reply::Slot(slots::key_slot(&line[..n]))
+    let n = decode(line)?;
+    Some(slots::key_slot(&line[..n]))
 }

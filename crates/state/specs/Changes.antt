@@ -1,12 +1,11 @@
 -- Changes of a record and of a node, each with one thing changed and the rest kept.
-use Rattle.std.specs.Prelude.{ℕ, cond, List, ltb, set}
+use Rattle.std.specs.Prelude.{ℕ, cond, List, ltb, set, Option}
 use Rattle.state.specs.Node.{record_at}
 use Rattle.state.specs.declared.Node.{Node}
 use Rattle.state.specs.declared.Record.{Record}
 use Rattle.state.specs.declared.Mark.{Mark}
 use Rattle.state.specs.declared.Role.{Role}
 use Rattle.state.specs.declared.Flag.{Flag}
-use Rattle.state.specs.declared.Moment.{Moment}
 use Rattle.state.specs.declared.Election.{Election}
 
 -- ---- one record
@@ -17,13 +16,13 @@ with_role x r = record { role = x; config = r.config; ping = r.ping; flag = r.fl
 abbrev pub with_config : ℕ → Record → Record
 with_config x r = record { role = r.role; config = x; ping = r.ping; flag = r.flag; vote = r.vote }
 
-abbrev pub with_ping : Moment → Record → Record
+abbrev pub with_ping : Option ℕ → Record → Record
 with_ping x r = record { role = r.role; config = r.config; ping = x; flag = r.flag; vote = r.vote }
 
 abbrev pub with_flag : Flag → Record → Record
 with_flag x r = record { role = r.role; config = r.config; ping = r.ping; flag = x; vote = r.vote }
 
-abbrev pub with_vote : Moment → Record → Record
+abbrev pub with_vote : Option ℕ → Record → Record
 with_vote x r = record { role = r.role; config = r.config; ping = r.ping; flag = r.flag; vote = x }
 
 -- ---- the node
@@ -43,7 +42,7 @@ with_voted x n = record { ids = n.ids; records = n.records; marks = n.marks; siz
 unfoldable pub with_clock : ℕ → Node → Node
 with_clock x n = record { ids = n.ids; records = n.records; marks = n.marks; size = n.size; me = n.me; marked = n.marked; current = n.current; voted = n.voted; clock = x; timeout = n.timeout; election = n.election }
 
-unfoldable pub with_election : Election → Node → Node
+unfoldable pub with_election : Option Election → Node → Node
 with_election x n = record { ids = n.ids; records = n.records; marks = n.marks; size = n.size; me = n.me; marked = n.marked; current = n.current; voted = n.voted; clock = n.clock; timeout = n.timeout; election = x }
 
 -- one record of the node changed

@@ -1,5 +1,5 @@
 -- Reading a node: its arrays by place, and the words for roles and flags.
-use Rattle.std.specs.Prelude.{ℕ, Bool, true, false, cond, List, [], ◌∷◌, ltb, get_or}
+use Rattle.std.specs.Prelude.{ℕ, Bool, true, false, cond, List, [], ◌∷◌, ltb, get_or, None, Option, Some}
 use Rattle.tables.specs.Checks.{all_of}
 use Rattle.tables.specs.Lists.{occurs}
 use Rattle.nodesets.specs.NodeSets.{gathered}
@@ -12,19 +12,23 @@ use Rattle.state.specs.declared.Role.{Role}
 use Rattle.state.specs.declared.Role.TheVariants.{Master, Replica}
 use Rattle.state.specs.declared.Flag.{Flag}
 use Rattle.state.specs.declared.Flag.TheVariants.{Clear, Pfail, Fail}
-use Rattle.state.specs.declared.Moment.TheVariants.{Never}
 use Rattle.state.specs.declared.Move.{Move}
 use Rattle.state.specs.declared.Move.TheVariants.{Migrating, Importing}
+use Rattle.state.specs.declared.Election.{Election}
 
 -- what reading past the end of an array gives; no rule reads there
 abbrev pub no_id : NodeId
 no_id = record { bytes = [] }
 
 abbrev pub blank : Record
-blank = record { role = Master; config = 0; ping = Never; flag = Clear; vote = Never }
+blank = record { role = Master; config = 0; ping = None; flag = Clear; vote = None }
 
 abbrev pub no_mark : Mark
 no_mark = record { slot = 0; movement = Migrating 0 }
+
+-- an election that is open: its epoch, when it opened, who may vote and whose acks were heard
+abbrev pub an_election : ℕ → ℕ → NodeSet → NodeSet → Option Election
+an_election epoch opened voters heard = Some (record { epoch = epoch; opened = opened; voters = voters; heard = heard })
 
 abbrev pub id_at : Node → ℕ → NodeId
 id_at n k = get_or n.ids k no_id

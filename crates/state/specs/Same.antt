@@ -1,5 +1,5 @@
 -- What of a node is part of its state, and when two nodes are in the same state.
-use Rattle.std.specs.Prelude.{◌≡◌, List, ℕ, take}
+use Rattle.std.specs.Prelude.{◌≡◌, List, ℕ, take, Option}
 use Rattle.state.specs.declared.Node.{Node}
 use Rattle.state.specs.declared.NodeId.{NodeId}
 use Rattle.state.specs.declared.Record.{Record}
@@ -16,7 +16,7 @@ pub record Held : Type 0 where
   pub voted : ℕ
   pub clock : ℕ
   pub timeout : ℕ
-  pub election : Election
+  pub election : Option Election
   pub size : ℕ
   pub marked : ℕ
 

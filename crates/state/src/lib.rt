@@ -15,7 +15,7 @@ pub struct NodeId {
     pub bytes: [u8; 20],
 }
 
-// A master, or the replica of the node with that number.
+// A master, or the replica of the node with that number. Not an Option: `None` would say less plainly that a node is a master.
 #[derive(Clone, Copy)]
 pub enum Role {
     Master,
@@ -30,13 +30,6 @@ pub enum Flag {
     Fail(u64),
 }
 
-// A time that may be missing.
-#[derive(Clone, Copy)]
-pub enum Moment {
-    Never,
-    At(u64),
-}
-
 // What is known of one node of the roster.
 #[derive(Clone, Copy)]
 pub struct Record {
@@ -44,13 +37,13 @@ pub struct Record {
     // The known configEpoch.
     pub config: u64,
     // The pending ping.
-    pub ping: Moment,
+    pub ping: Option<u64>,
     pub flag: Flag,
     // When a vote last went to one of its replicas.
-    pub vote: Moment,
+    pub vote: Option<u64>,
 }
 
-// Where a slot moves: to or from a peer.
+// Where a slot moves: to or from a peer. Document 01 names this form, an enum of two cases.
 #[derive(Clone, Copy)]
 pub enum Move {
     Migrating(u8),
@@ -64,16 +57,13 @@ pub struct Mark {
     pub movement: Move,
 }
 
-// At most one election: its epoch, when it opened, who may vote and whose acks were heard.
+// An election: its epoch, when it opened, who may vote and whose acks were heard.
 #[derive(Clone, Copy)]
-pub enum Election {
-    Closed,
-    Open {
-        epoch: u64,
-        opened: u64,
-        voters: NodeSet,
-        heard: NodeSet,
-    },
+pub struct Election {
+    pub epoch: u64,
+    pub opened: u64,
+    pub voters: NodeSet,
+    pub heard: NodeSet,
 }
 
 // What a report says of its subject.
@@ -91,7 +81,8 @@ pub enum Echo {
     Pong,
 }
 
-// Places of the arrays past `size` or `marked` are no part of the state.
+// Places of the arrays past `size` or `marked` are no part of the state. Memory is fixed, and document 01 names the form: arrays by value
+// of ids, records and marks.
 #[derive(Clone, Copy)]
 pub struct Node {
     pub ids: [NodeId; NODES],
@@ -109,7 +100,8 @@ pub struct Node {
     // The latest clock, and T, in milliseconds.
     pub clock: u64,
     pub timeout: u64,
-    pub election: Election,
+    // At most one election is open.
+    pub election: Option<Election>,
 }
 
 // What a call answers, and the node after it.
@@ -122,44 +114,31 @@ pub struct Outcome {
 pub fn is_master(role: Role) -> bool
     ensures { result ≡ is_master role }
 {
-    match role {
-        Role::Master => true,
-        Role::Replica(_) => false,
-    }
+    matches!(role, Role::Master)
 }
 
 // How many records the roster has.
 pub fn listed(size: u16) -> u16
     ensures { result ≡ min size node_room }
 {
-    if size < MOST_NODES {
-        return size;
-    }
-    MOST_NODES
+    size.min(MOST_NODES)
 }
 
 // The masters listed now.
 pub fn masters(node: Node) -> NodeSet
     ensures { result ≡ masters node }
 {
-    let end = listed(node.size);
     let mut set = nodesets::none();
-    let mut k: u16 = 0;
-    while k < end {
-        let i = k as usize;
-        let known = node.records[i];
-        let role = known.role;
-        if is_master(role) {
+    for k in 0..listed(node.size) {
+        let known = node.records[usize::from(k)];
+        if is_master(known.role) {
             set = nodesets::add(set, k);
-            k += 1;
-            continue;
         }
-        k += 1;
     }
     set
 }
 
-// Whom a replica follows; of a master no rule asks it.
+// Whom a replica follows; of a master no rule asks it, and the definition of that name says 0, so it is no Option.
 pub fn followed(role: Role) -> u8
     ensures { result ≡ followed role }
 {
@@ -172,39 +151,26 @@ pub fn followed(role: Role) -> u8
 pub fn is_fail(flag: Flag) -> bool
     ensures { result ≡ is_fail flag }
 {
-    match flag {
-        Flag::Clear => false,
-        Flag::Pfail => false,
-        Flag::Fail(_) => true,
-    }
+    matches!(flag, Flag::Fail(_))
 }
 
 pub fn is_pfail(flag: Flag) -> bool
     ensures { result ≡ is_pfail flag }
 {
-    match flag {
-        Flag::Clear => false,
-        Flag::Pfail => true,
-        Flag::Fail(_) => false,
-    }
+    matches!(flag, Flag::Pfail)
 }
 
 pub fn is_clear(flag: Flag) -> bool
     ensures { result ≡ is_clear flag }
 {
-    match flag {
-        Flag::Clear => true,
-        Flag::Pfail => false,
-        Flag::Fail(_) => false,
-    }
+    matches!(flag, Flag::Clear)
 }
 
 pub fn peer_of(movement: Move) -> u8
     ensures { result ≡ peer_of movement }
 {
     match movement {
-        Move::Migrating(peer) => peer,
-        Move::Importing(peer) => peer,
+        Move::Migrating(peer) | Move::Importing(peer) => peer,
     }
 }
 

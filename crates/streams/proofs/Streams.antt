@@ -1,4 +1,5 @@
 -- Pieces come to what their bytes come to, and each line to what the node answers to it whole.
+use Rattle.std.specs.Prelude.{None, Option, Some}
 use mathlib.Core.Path.{◌≡◌, refl, sym, ap, subst, ◌∙◌}
 use mathlib.Core.Bool.{Bool, true, false, cond}
 use mathlib.Core.List.{List, [], ◌∷◌, ◌++◌, append-nil, append_assoc, flatten}
@@ -10,8 +11,6 @@ use lib.ListN.{length, take, drop, length-drop}
 use lib.Seq.{drop-length}
 use borrow.Author.Tests.{eqb-true, ltb-true, ltb-false, ne_eqb}
 use Rattle.tables.specs.Lists.{first_from, first_byte, newline}
-use Rattle.tables.specs.declared.Found.{Found}
-use Rattle.tables.specs.declared.Found.TheVariants.{Nothing, At}
 use Rattle.answers.specs.declared.Answer.{Answer}
 use Rattle.frames.specs.Frames.{digits_of}
 use Rattle.frames.specs.declared.Layout.{Layout}
@@ -52,13 +51,13 @@ by_test t s b = cond t (ended s) (nothing (with_line (longer s.line b) s))
 abbrev pub continues : Station → List ℕ → Station
 continues s bytes = with_line (grown s.line bytes) s
 
-quiet : (i : ℕ) (s : Station) (bs : List ℕ) → first_from is_newline i bs ≡ Nothing → stream s bs ≡ nothing (continues s bs)
+quiet : (i : ℕ) (s : Station) (bs : List ℕ) → first_from is_newline i bs ≡ None → stream s bs ≡ nothing (continues s bs)
 unfolding stream grown first_from
 quiet i s [] e = refl
 quiet i s (b ∷ bs) e = go (eqb b newline) refl e (λ t f. quiet (suc i) t bs f)
   where
-    go : (t : Bool) → eqb b newline ≡ t → cond t (At i) (first_from is_newline (suc i) bs) ≡ Nothing
-        → ((u : Station) → first_from is_newline (suc i) bs ≡ Nothing → stream u bs ≡ nothing (continues u bs))
+    go : (t : Bool) → eqb b newline ≡ t → cond t (Some i) (first_from is_newline (suc i) bs) ≡ None
+        → ((u : Station) → first_from is_newline (suc i) bs ≡ None → stream u bs ≡ nothing (continues u bs))
         → then (by_test t s b) (λ u. stream u bs) ≡ nothing (continues s (b ∷ bs))
     go true q f ih = let z : ◌≡◌ {A = ℕ} 0 1 = cc in absurd (omega arith)
     go false q f ih = ih (with_line (longer s.line b) s) f
@@ -66,22 +65,22 @@ quiet i s (b ∷ bs) e = go (eqb b newline) refl e (λ t f. quiet (suc i) t bs f
 -- ---- up to the first newline
 record Ends (i : ℕ) (bs : List ℕ) (k : ℕ) : Type 0 where
   pub whole : bs ≡ take k bs ++ (newline ∷ drop (suc k) bs)
-  pub front : first_from is_newline i (take k bs) ≡ Nothing
+  pub front : first_from is_newline i (take k bs) ≡ None
 
-ends_from : (i : ℕ) (bs : List ℕ) (k : ℕ) → first_from is_newline i bs ≡ At k → (j : ℕ) × (k ≡ i + j) × Ends i bs j
+ends_from : (i : ℕ) (bs : List ℕ) (k : ℕ) → first_from is_newline i bs ≡ Some k → (j : ℕ) × (k ≡ i + j) × Ends i bs j
 unfolding first_from
 ends_from i [] k e = let z : ◌≡◌ {A = ℕ} 0 1 = cc in absurd (omega arith)
 ends_from i (b ∷ bs) k e = go (eqb b newline) refl e (ends_from (suc i) bs k)
   where
-    go : (t : Bool) → eqb b newline ≡ t → cond t (At i) (first_from is_newline (suc i) bs) ≡ At k
-        → (first_from is_newline (suc i) bs ≡ At k → (j : ℕ) × (k ≡ suc i + j) × Ends (suc i) bs j)
+    go : (t : Bool) → eqb b newline ≡ t → cond t (Some i) (first_from is_newline (suc i) bs) ≡ Some k
+        → (first_from is_newline (suc i) bs ≡ Some k → (j : ℕ) × (k ≡ suc i + j) × Ends (suc i) bs j)
         → (j : ℕ) × (k ≡ i + j) × Ends i (b ∷ bs) j
     go true q f ih = let z : i ≡ k = cc in (0, omega arith, record { whole = ap (λ (x : ℕ). x ∷ bs) (eqb-true b newline q); front = refl })
     go false q f ih =
         let r = ih f in
         (suc r.0, omega (arith, r.1), record { whole = ap (λ (l : List ℕ). b ∷ l) r.2.whole; front = rw q r.2.front })
 
-ends_at : (bs : List ℕ) (k : ℕ) → first_byte newline bs ≡ At k → Ends 0 bs k
+ends_at : (bs : List ℕ) (k : ℕ) → first_byte newline bs ≡ Some k → Ends 0 bs k
 ends_at bs k e = let r = ends_from 0 bs k e in let z : r.0 ≡ k = omega (arith, r.1) in subst (λ (j : ℕ). Ends 0 bs j) z r.2
 
 -- a line and its newline
@@ -90,10 +89,10 @@ unfolding stream
 line_ends s line rest q = stream_append s line (newline ∷ rest) ∙ ap (λ (h : Heard). then h (λ t. stream t (newline ∷ rest))) (quiet 0 s line q)
 
 -- ---- one call
-one_call : (s : Station) (piece rest : List ℕ) (f : Found) → first_byte newline piece ≡ f
+one_call : (s : Station) (piece rest : List ℕ) (f : Option ℕ) → first_byte newline piece ≡ f
     → let c = after s (up_to s.line piece f) in stream s (piece ++ rest) ≡ then (heard c) (λ t. stream t (drop c.used piece ++ rest))
-one_call s piece rest Nothing e = stream_append s piece rest ∙ then_of rest (quiet 0 s piece e) ∙ rw (drop-length piece)
-one_call s piece rest (At k) e =
+one_call s piece rest None e = stream_append s piece rest ∙ then_of rest (quiet 0 s piece e) ∙ rw (drop-length piece)
+one_call s piece rest (Some k) e =
     let d = ends_at piece k e in
     ap (λ (l : List ℕ). stream s (l ++ rest)) d.whole
     ∙ ap (stream s) (append_assoc (take k piece) (newline ∷ drop (suc k) piece) rest)
@@ -108,9 +107,9 @@ some : (s : Station) (b : ℕ) (bs : List ℕ) → 0 < (feeds s (b ∷ bs)).used
 unfolding feeds takes
 some s b bs = go (first_byte newline (b ∷ bs))
   where
-    go : (f : Found) → 0 < (after s (up_to s.line (b ∷ bs) f)).used
-    go Nothing = omega arith
-    go (At k) = omega arith
+    go : (f : Option ℕ) → 0 < (after s (up_to s.line (b ∷ bs) f)).used
+    go None = omega arith
+    go (Some k) = omega arith
 
 -- ---- calls until a piece is used up, and pieces
 left : (s : Station) (n : ℕ) (piece : List ℕ) → length piece ≤ suc n → length (drop (feeds s piece).used piece) ≤ n

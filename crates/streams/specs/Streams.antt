@@ -1,15 +1,12 @@
 -- A whole feed, byte by byte and in pieces: document 02, [9]. However the same bytes are cut, they come to the same.
-use Rattle.std.specs.Prelude.{◌≡◌, cond, ℕ, zero, suc, ◌≤◌, ◌<◌, eqb, length, drop}
+use Rattle.std.specs.Prelude.{◌≡◌, cond, ℕ, zero, suc, ◌≤◌, ◌<◌, eqb, length, drop, None, Option, Some}
 use mathlib.Core.List.{List, [], ◌∷◌, ◌++◌, flatten}
 use Rattle.tables.specs.Lists.{first_byte, newline}
-use Rattle.tables.specs.declared.Found.TheVariants.{Nothing}
 use Rattle.answers.specs.declared.Answer.{Answer}
 use Rattle.state.specs.Outcomes.{Stepped}
 use Rattle.node.specs.Step.{on_frame}
 use Rattle.scraps.specs.Scraps.{short, longer, grown}
 use Rattle.feed.specs.Feed.{Station, with_line, Called, ends, on_line, feeds}
-use Rattle.feed.specs.declared.Told.{Told}
-use Rattle.feed.specs.declared.Told.TheVariants.{NoLine, Answered}
 
 -- ---- what some bytes come to: the answers of the lines that ended in them, the first one first, and what they leave
 pub record Heard : Type 0 where
@@ -24,9 +21,9 @@ abbrev pub then : Heard → (Station → Heard) → Heard
 then h f = following h.answers (f h.after)
 
 -- what a call comes to
-abbrev pub answers_of : Told → List Answer
-answers_of NoLine = []
-answers_of (Answered a) = a ∷ []
+abbrev pub answers_of : Option Answer → List Answer
+answers_of None = []
+answers_of (Some a) = a ∷ []
 
 abbrev pub heard : Called → Heard
 heard c = record { answers = answers_of c.told; after = c.after }
@@ -72,7 +69,7 @@ pub record CutAnywhere (s : Station) : Type 0 where
 -- ---- line by line
 
 abbrev pub NoNewline : List ℕ → Type 0
-NoNewline bytes = first_byte newline bytes ≡ Nothing
+NoNewline bytes = first_byte newline bytes ≡ None
 
 -- where a line begins
 abbrev pub Fresh : Station → Type 0

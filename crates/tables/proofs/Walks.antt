@@ -1,18 +1,20 @@
 -- Laws of loops over a table from the front: what is done is its front, what is left is made of the rest.
+use Rattle.std.specs.Prelude.{None, Option, Some, position}
+use Rattle.std.specs.List.{list_any, position_from}
+use Rattle.std.specs.Simd.{first_chunks}
+use Rattle.std.proofs.lemmas.Iterator.Adapters.{position_from-zero}
 use mathlib.Core.Path.{◌≡◌, refl, sym, ap, ◌∙◌}
 use mathlib.Core.Bool.{Bool, true, false, ◌||◌, cond, or_assoc}
 use mathlib.Core.List.{List, [], ◌∷◌, ◌++◌, append-nil}
-use Prim.Native.Nat.{ℕ, zero, suc, ◌+◌, ◌-◌, ◌≤◌, ◌<◌}
+use Prim.Native.Nat.{ℕ, zero, suc, ◌+◌, ◌*◌, ◌≤◌, ◌<◌}
 use native.Mathlib.Nat.{add-zero, add-suc, suc-add, le_of_suc-le-suc, not-suc-le-zero}
 use native.Mathlib.Numerals.{add-one}
 use native.Mathlib.Omega.{arith}
 use lib.Dec.{eqb}
-use lib.ListN.{length, take, drop, get_or, set, length-drop, drop_of_length-le, take-append-drop}
+use lib.ListN.{length, take, drop, get_or, set, drop_of_length-le, take-append-drop}
 use lib.Seq.{drop-cons, drop-drop, take-suc, take-suc-set, drop-set-lt, take_all, append_snoc}
 use borrow.Author.Tests.{eqb-true, eq-eqb}
-use Rattle.tables.specs.Lists.{map_from, count_from, first_from, is_found, occurs}
-use Rattle.tables.specs.declared.Found.{Found}
-use Rattle.tables.specs.declared.Found.TheVariants.{Nothing, At}
+use Rattle.tables.specs.Lists.{map_from, count_from, first_from, first_at, is_found, occurs}
 use Rattle.tables.proofs.Checks.{never}
 
 -- ---- a turn at place s: the list l became m, v at s
@@ -47,7 +49,7 @@ module _ {A : Type 0} {l m : List A} {s : ℕ} {v : A} (d : A) (h : s < length l
   count_miss p n e = rw (t.rest, add-one s, drop-cons l s d h, count_from, e)
 
   -- a search: what the rest finds
-  pub first_hit : (p : ℕ → A → Bool) → p s (get_or l s d) ≡ true → first_from p s (drop s l) ≡ At s
+  pub first_hit : (p : ℕ → A → Bool) → p s (get_or l s d) ≡ true → first_from p s (drop s l) ≡ Some s
   unfolding first_from
   first_hit p e = rw (drop-cons l s d h, first_from, e)
 
@@ -73,7 +75,7 @@ unfolding count_from
 count_none p i [] e = refl
 count_none p i (x ∷ l) e = rw (e i x (omega arith) (omega arith)) (count_none p (suc i) l (λ k y h g. e k y (omega arith) (omega arith)))
 
-pub first_none : {A : Type 0} (p : ℕ → A → Bool) (i : ℕ) (l : List A) → ((k : ℕ) (x : A) → i ≤ k → k < i + length l → p k x ≡ false) → first_from p i l ≡ Nothing
+pub first_none : {A : Type 0} (p : ℕ → A → Bool) (i : ℕ) (l : List A) → ((k : ℕ) (x : A) → i ≤ k → k < i + length l → p k x ≡ false) → first_from p i l ≡ None
 unfolding first_from
 first_none p i [] e = refl
 first_none p i (x ∷ l) e = rw (e i x (omega arith) (omega arith)) (first_none p (suc i) l (λ k y h g. e k y (omega arith) (omega arith)))
@@ -105,7 +107,7 @@ counts_agree p q d i (x ∷ xs) f =
 
 -- a search that has come to place i
 module _ {A : Type 0} (p : ℕ → A → Bool) (xs : List A) (i : ℕ) where
-  pub first_here : (d : A) → i < length xs → p i (get_or xs i d) ≡ true → first_from p i (drop i xs) ≡ At i
+  pub first_here : (d : A) → i < length xs → p i (get_or xs i d) ≡ true → first_from p i (drop i xs) ≡ Some i
   unfolding first_from
   first_here d h e = rw (drop-cons xs i d, e)
 
@@ -113,54 +115,43 @@ module _ {A : Type 0} (p : ℕ → A → Bool) (xs : List A) (i : ℕ) where
   unfolding first_from
   first_past d h e = rw (drop-cons xs i d, e, add-one i)
 
-  pub first_ended : length xs ≤ i → first_from p i (drop i xs) ≡ Nothing
+  pub first_ended : length xs ≤ i → first_from p i (drop i xs) ≡ None
   unfolding first_from
   first_ended h = rw (drop_of_length-le xs h)
 
 -- what is found stands within the list
-pub first_within : {A : Type 0} (p : ℕ → A → Bool) (xs : List A) (i k : ℕ) → first_from p i xs ≡ At k → k < i + length xs
+pub first_within : {A : Type 0} (p : ℕ → A → Bool) (xs : List A) (i k : ℕ) → first_from p i xs ≡ Some k → k < i + length xs
 unfolding first_from
 first_within p [] i k e = let z : ◌≡◌ {A = ℕ} 0 1 = cc in absurd (omega arith)
 first_within {A} p (x ∷ xs) i k e = go (p i x) (first_within p xs (suc i) k) e
   where
-    go : (t : Bool) → (first_from p (suc i) xs ≡ At k → k < suc i + length xs) → cond t (At i) (first_from p (suc i) xs) ≡ At k → k < i + length (x ∷ xs)
+    go : (t : Bool) → (first_from p (suc i) xs ≡ Some k → k < suc i + length xs) → cond t (Some i) (first_from p (suc i) xs) ≡ Some k → k < i + length (x ∷ xs)
     go true ih h = let z : i ≡ k = cc in omega arith
     go false ih h = omega (arith, ih h)
 
--- nothing below s passes
-pub record Looked (p : ℕ → ℕ → Bool) (xs : List ℕ) (s : ℕ) : Type 0 where
-  pub within : s ≤ length xs
-  pub rest : first_from p 0 xs ≡ first_from p s (drop s xs)
-
-pub looked_none : (p : ℕ → ℕ → Bool) (xs : List ℕ) → Looked p xs 0
-looked_none p xs = record { within = omega arith; rest = refl }
-
-pub looked_more : (p : ℕ → ℕ → Bool) (xs : List ℕ) (s : ℕ) → Looked p xs s → s < length xs → p s (get_or xs s 0) ≡ false → Looked p xs (s + 1)
+-- one that asks no entry for its place is std's `position`
+from_position : {A : Type 0} (p : A → Bool) (i : ℕ) (xs : List A) → position_from p i xs ≡ first_from (λ place x. p x) i xs
 unfolding first_from
-looked_more p xs s l h e = record { within = omega arith; rest = l.rest ∙ rw (add-one s, drop-cons xs s 0 h, e) }
+from_position p i [] = refl
+from_position p i (x ∷ xs) = rw (add-one i, from_position p (suc i) xs)
 
-pub looked_here : (p : ℕ → ℕ → Bool) (xs : List ℕ) (s : ℕ) → Looked p xs s → s < length xs → p s (get_or xs s 0) ≡ true → At s ≡ first_from p 0 xs
-unfolding first_from
-looked_here p xs s l h e = sym (l.rest ∙ rw (drop-cons xs s 0 h, e))
-
-pub looked_all : (p : ℕ → ℕ → Bool) (xs : List ℕ) (s : ℕ) → Looked p xs s → length xs ≤ s → Nothing ≡ first_from p 0 xs
-unfolding first_from
-looked_all p xs s l h = sym (l.rest ∙ rw (drop_of_length-le xs h))
+pub first_position : {A : Type 0} (p : A → Bool) (xs : List A) → position p xs ≡ first_at (λ place x. p x) xs
+first_position p xs = position_from-zero p xs ∙ from_position p 0 xs
 
 -- ---- what a search says of every entry
 
-pub none_passes : (p : ℕ → ℕ → Bool) (i : ℕ) (xs : List ℕ) → first_from p i xs ≡ Nothing → (k : ℕ) → k < length xs → p (i + k) (get_or xs k 0) ≡ false
+pub none_passes : (p : ℕ → ℕ → Bool) (i : ℕ) (xs : List ℕ) → first_from p i xs ≡ None → (k : ℕ) → k < length xs → p (i + k) (get_or xs k 0) ≡ false
 unfolding first_from
 none_passes p i [] e k h = absurd (not-suc-le-zero h)
 none_passes p i (x ∷ xs) e k h = go (p i x) refl e k h (none_passes p (suc i) xs)
   where
-    go : (t : Bool) → p i x ≡ t → cond t (At i) (first_from p (suc i) xs) ≡ Nothing → (k : ℕ) → k < length (x ∷ xs)
-        → (first_from p (suc i) xs ≡ Nothing → (k : ℕ) → k < length xs → p (suc i + k) (get_or xs k 0) ≡ false) → p (i + k) (get_or (x ∷ xs) k 0) ≡ false
+    go : (t : Bool) → p i x ≡ t → cond t (Some i) (first_from p (suc i) xs) ≡ None → (k : ℕ) → k < length (x ∷ xs)
+        → (first_from p (suc i) xs ≡ None → (k : ℕ) → k < length xs → p (suc i + k) (get_or xs k 0) ≡ false) → p (i + k) (get_or (x ∷ xs) k 0) ≡ false
     go true q e k h f = let z : ◌≡◌ {A = ℕ} 0 1 = cc in absurd (omega arith)
     go false q e zero h f = rw add-zero q
     go false q e (suc k) h f = rw (add-suc i k, ← suc-add i k) (f e k (le_of_suc-le-suc h))
 
-pub none_found : (p : ℕ → ℕ → Bool) (i : ℕ) (xs : List ℕ) → ((k : ℕ) → k < length xs → p (i + k) (get_or xs k 0) ≡ false) → first_from p i xs ≡ Nothing
+pub none_found : (p : ℕ → ℕ → Bool) (i : ℕ) (xs : List ℕ) → ((k : ℕ) → k < length xs → p (i + k) (get_or xs k 0) ≡ false) → first_from p i xs ≡ None
 unfolding first_from
 none_found p i [] f = refl
 none_found p i (x ∷ xs) f =
@@ -170,7 +161,7 @@ none_found p i (x ∷ xs) f =
 -- ---- a number that occurs in a table: entry by entry, and part by part
 
 module _ (v : ℕ) where
-  found_or : (t : Bool) (i : ℕ) (f : Found) → is_found (cond t (At i) f) ≡ (t || is_found f)
+  found_or : (t : Bool) (i : ℕ) (f : Option ℕ) → is_found (cond t (Some i) f) ≡ (t || is_found f)
   found_or true i f = refl
   found_or false i f = refl
 
@@ -198,28 +189,20 @@ module _ (v : ℕ) where
     pub occurs_turn : i < length xs → occurs (drop i xs) v ≡ (eqb (get_or xs i 0) v || occurs (drop (i + 1) xs) v)
     occurs_turn h = rw (add-one i, drop-cons xs i 0 h) (occurs_cons (get_or xs i 0) (drop (suc i) xs))
 
-    -- in the part from place i up to place j, or in the rest behind that
-    module _ (j : ℕ) (l : i ≤ j) where
-      in_part : occurs (drop i xs) v ≡ (occurs (take (j - i) (drop i xs)) v || occurs (drop j xs) v)
-      in_part =
-          let e : i + (j - i) ≡ j = omega arith in
-          ap (λ (ys : List ℕ). occurs ys v) (sym (take-append-drop (j - i) (drop i xs)))
-          ∙ occurs_append (take (j - i) (drop i xs)) (drop (j - i) (drop i xs))
-          ∙ ap (λ (ys : List ℕ). occurs (take (j - i) (drop i xs)) v || occurs ys v) (drop-drop (j - i) i xs ∙ ap (λ (k : ℕ). drop k xs) e)
-
-      pub occurs_there : occurs (take (j - i) (drop i xs)) v ≡ true → occurs (drop i xs) v ≡ true
-      occurs_there e = in_part ∙ ap (λ (b : Bool). b || occurs (drop j xs) v) e
-
-      pub occurs_behind : occurs (take (j - i) (drop i xs)) v ≡ false → occurs (drop i xs) v ≡ occurs (drop j xs) v
-      occurs_behind e = in_part ∙ ap (λ (b : Bool). b || occurs (drop j xs) v) e
-
-    -- in the part that goes to the end
-    pub occurs_onwards : occurs (take (length xs - i) (drop i xs)) v ≡ occurs (drop i xs) v
-    occurs_onwards = ap (λ (ys : List ℕ). occurs ys v) (take_all (length xs - i) (drop i xs) (rw (length-drop i xs) (omega arith)))
-
     pub occurs_ended : length xs ≤ i → occurs (drop i xs) v ≡ false
     unfolding first_from
     occurs_ended h = rw (drop_of_length-le xs h)
+
+  -- in one of the first k stretches of n entries, or in the rest behind them
+  pub occurs_chunks : (n k : ℕ) (xs : List ℕ) → (list_any (λ stretch. occurs stretch v) (first_chunks n k xs) || occurs (drop (k * n) xs) v) ≡ occurs xs v
+  occurs_chunks n zero xs = let e : 0 * n ≡ 0 = omega arith in rw e
+  occurs_chunks n (suc k) xs =
+      let e : suc k * n ≡ n + k * n = omega arith in
+      rw (e, ← drop-drop (k * n) n xs)
+      (or_assoc (occurs (take n xs) v) _ _
+      ∙ ap (λ (b : Bool). occurs (take n xs) v || b) (occurs_chunks n k (drop n xs))
+      ∙ sym (occurs_append (take n xs) (drop n xs))
+      ∙ ap (λ (ys : List ℕ). occurs ys v) (take-append-drop n xs))
 
 -- ---- a number occurs in a table exactly when some place has it
 
@@ -237,13 +220,13 @@ occurs_exactly xs v = (found 0 xs, λ h. by h (first_from (λ place entry. eqb e
     found i (x ∷ xs) e = go (eqb x v) refl (found (suc i) xs) e
       where
         go : (t : Bool) → eqb x v ≡ t → (is_found (first_from (λ place entry. eqb entry v) (suc i) xs) ≡ true → HasPlace xs v)
-            → is_found (cond t (At i) (first_from (λ place entry. eqb entry v) (suc i) xs)) ≡ true → HasPlace (x ∷ xs) v
+            → is_found (cond t (Some i) (first_from (λ place entry. eqb entry v) (suc i) xs)) ≡ true → HasPlace (x ∷ xs) v
         go true q f e = record { place = 0; within = omega arith; there = eqb-true x v q }
         go false q f e = let h = f e in record { place = suc h.place; within = omega (arith, h.within); there = h.there }
 
-    by : HasPlace xs v → (f : Found) → first_from (λ place entry. eqb entry v) 0 xs ≡ f → is_found f ≡ true
-    by h (At s) e = refl
-    by h Nothing e = never (sym (eq-eqb _ v h.there) ∙ none_passes (λ place entry. eqb entry v) 0 xs e h.place h.within)
+    by : HasPlace xs v → (f : Option ℕ) → first_from (λ place entry. eqb entry v) 0 xs ≡ f → is_found f ≡ true
+    by h (Some s) e = refl
+    by h None e = never (sym (eq-eqb _ v h.there) ∙ none_passes (λ place entry. eqb entry v) 0 xs e h.place h.within)
 
 -- ---- a table rewritten from the front
 

@@ -35,25 +35,11 @@ pub const LEAST_TIMEOUT: u64 = 100;
 
 pub const MOST_TIMEOUT: u64 = 600000;
 
-// A place counted from 0, or nothing.
-#[derive(Clone, Copy)]
-pub enum Found {
-    Nothing,
-    At(usize),
-}
-
 // Where a byte first stands.
-pub fn first_byte(bytes: &[u8], byte: u8) -> Found
+pub fn first_byte(bytes: &[u8], byte: u8) -> Option<usize>
     ensures { result ≡ first_byte byte bytes.now }
 {
-    let mut i: usize = 0;
-    while i < bytes.len() {
-        if bytes[i] == byte {
-            return Found::At(i);
-        }
-        i += 1;
-    }
-    Found::Nothing
+    bytes.iter().position(|&b| b == byte)
 }
 
 // How many entries of a table are searched before it is asked whether to go on: 64 bytes of it.
@@ -64,10 +50,8 @@ fn stands_in(stretch: &[u16], number: u16) -> bool
     ensures { result ≡ occurs stretch.now number }
 {
     let mut found = false;
-    let mut i: usize = 0;
-    while i < stretch.len() {
-        found = found | (stretch[i] == number);
-        i += 1;
+    for &entry in stretch {
+        found |= entry == number;
     }
     found
 }
@@ -76,13 +60,6 @@ fn stands_in(stretch: &[u16], number: u16) -> bool
 pub fn occurs(entries: &[u16], number: u16) -> bool
     ensures { result ≡ occurs entries.now number }
 {
-    let mut from: usize = 0;
-    while STRETCH <= entries.len() - from {
-        let to = from + STRETCH;
-        if stands_in(&entries[from..to], number) {
-            return true;
-        }
-        from = to;
-    }
-    stands_in(&entries[from..], number)
+    let (stretches, rest) = entries.as_chunks::<STRETCH>();
+    stretches.iter().any(|stretch| stands_in(stretch, number)) || stands_in(rest, number)
 }

@@ -1,3 +1,3 @@
-pub mod Shares
 pub mod Room
 pub mod Examples
+pub mod Counted

@@ -1,14 +1,12 @@
 -- Each node's share is short, and so is what is said of the rest.
-use mathlib.Core.Path.{◌≡◌, refl}
 use mathlib.Core.Bool.{Bool, true, false, not, cond}
-use mathlib.Core.List.{List, [], ◌∷◌, ◌++◌}
-use Prim.Native.Nat.{ℕ, zero, suc, ◌+◌, ◌*◌, ◌≤◌, ◌<◌}
+use mathlib.Core.List.{List, [], ◌∷◌}
+use Prim.Native.Nat.{ℕ, zero, suc, ◌*◌, ◌≤◌, ◌<◌}
 use native.Mathlib.Omega.{arith}
 use lib.Dec.{eqb, ltb}
 use lib.ListN.{length, length-append}
 use Rattle.tables.specs.Lists.{count_from}
 use Rattle.lines.specs.Texts.{ascii}
-use Rattle.phrases.specs.Phrases.{filled}
 use Rattle.phrases.proofs.Lengths.{short}
 use Rattle.totals.specs.Totals.{owned, ownerless, by_count, share, shares, remainder, totals}
 use Rattle.totals.specs.Room.{RoomEnough}

@@ -1,5 +1,5 @@
 -- Totals as they are printed: computed.
-use Rattle.std.specs.Prelude.{◌≡◌, List, [], ◌∷◌}
+use Rattle.std.specs.Prelude.{◌≡◌, [], ◌∷◌}
 use Rattle.tables.specs.Sizes.{unowned}
 use Rattle.lines.specs.Texts.{ascii}
 use Rattle.totals.specs.Totals.{totals}

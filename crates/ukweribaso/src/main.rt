@@ -2,12 +2,11 @@
 // answer, currentEpoch and lastVoteEpoch on standard output. The input is fed in pieces, as they are read.
 #![tactic(auto)]
 
-ghost use Rattle.std.specs.Prelude.{◌≡◌, length, take};
-ghost use Rattle.io.specs.Counts.{clamp_len};
+ghost use Rattle.std.specs.Prelude.{◌≡◌, take};
 ghost use Rattle.feed.specs.Feed.{station};
 ghost use Rattle.streams.specs.Streams.{stream};
 
-use feed::Told;
+use lines::Writer;
 use scraps::Kept;
 use state::Node;
 use std::io::Read;
@@ -23,116 +22,83 @@ const TEXT: usize = 65536;
 
 const FULL: usize = 65490;
 
-// Between two reads: the node, what is kept of the line that has not ended yet, and whether the input goes on.
+// Between two reads: the node, and what is kept of the line that has not ended yet.
 #[derive(Clone, Copy)]
 struct Held {
     node: Node,
     kept: Kept,
-    going: bool,
 }
 
 // Answers every line that ends in the piece, and leaves what its bytes leave one by one. An answer uses its line up, so
 // that nothing is kept then; to say so here saves copying back what a call leaves.
 fn answer_lines(
     rt: &impl Print,
-    node: Node,
-    kept: Kept,
+    held: Held,
     slots: &mut [u16],
     reports: &mut [u64],
     piece: &[u8],
-    out: &mut [u8],
+    out: &mut Writer,
 ) -> Held
-    ensures { station result.node slots.new reports.new result.kept ≡ (stream (station node slots.old reports.old kept) piece.now).after }
+    ensures { station result.node slots.new reports.new result.kept ≡ (stream (station held.node slots.old reports.old held.kept) piece.now).after }
 {
-    let mut here = node;
-    let mut rest = kept;
-    let mut at: usize = 0;
+    let mut here = held.node;
+    let mut rest = held.kept;
     let mut from: usize = 0;
     loop {
         let fed = feed::feed(here, slots, reports, rest, &piece[from..]);
         here = fed.node;
-        let told = fed.told;
-        let Told::Answered(answer) = told else {
-            lines::flush(rt, out, at);
-            let kept = fed.kept;
+        let Some(answer) = fed.told else {
+            out.flush(rt);
             return Held {
                 node: here,
-                kept,
-                going: true,
+                kept: fed.kept,
             };
         };
         rest.length = 0;
-        from = from + fed.used;
-        let text = printing::put_answer(out, at, answer, here.current, here.voted);
-        at = lines::drained(rt, out, text, FULL);
+        from += fed.used;
+        printing::put_answer(out, answer, here.current, here.voted);
+        out.drain(rt, FULL);
     }
 }
 
-// Feeds the node what was read: as many bytes of the buffer as the read answered, and none where it failed.
+// Feeds the node what was read: as many bytes of the buffer as the read answered.
 fn take_in(
     rt: &impl Print,
-    node: Node,
-    kept: Kept,
+    held: Held,
     slots: &mut [u16],
     reports: &mut [u64],
     buf: &[u8],
-    got: isize,
-    out: &mut [u8],
+    got: usize,
+    out: &mut Writer,
 ) -> Held
-    ensures { station result.node slots.new reports.new result.kept ≡ (stream (station node slots.old reports.old kept) (take (clamp_len got (length buf.now)) buf.now)).after }
+    ensures { station result.node slots.new reports.new result.kept ≡ (stream (station held.node slots.old reports.old held.kept) (take got buf.now)).after }
 {
-    if got <= 0 {
-        return Held {
-            node,
-            kept,
-            going: false,
-        };
-    }
-    let n = io::count(got, buf);
-    answer_lines(rt, node, kept, slots, reports, &buf[..n], out)
+    let read = buf.get(..got).unwrap_or(buf);
+    answer_lines(rt, held, slots, reports, read, out)
 }
 
-// Reads once, and feeds the node what came.
-fn turn<R: Read>(
-    rt: &impl Print,
-    input: &mut R,
-    node: Node,
-    kept: Kept,
-    slots: &mut [u16],
-    reports: &mut [u64],
-    buf: &mut [u8],
-    out: &mut [u8],
-) -> Held {
-    let got = match input.read(buf) {
-        Ok(n) => n as isize,
-        Err(_) => -1,
-    };
-    take_in(rt, node, kept, slots, reports, buf, got, out)
-}
-
-// A proved loop has to end, and nothing says that the input does, so it counts down from a number that no run uses up.
+// Reads until the input ends or a read fails. A proved loop has to end, and nothing says that the input does, so it counts up to a
+// number that no run reaches.
 fn run<R: Read>(
     rt: &impl Print,
     input: &mut R,
     slots: &mut [u16],
     reports: &mut [u64],
     buf: &mut [u8],
-    out: &mut [u8],
+    out: &mut Writer,
 ) {
     let mut held = Held {
         node: cases::node(),
         kept: scraps::none(),
-        going: true,
     };
-    let mut turns = u64::MAX;
-    while turns > 0 {
-        let node = held.node;
-        let kept = held.kept;
-        held = turn(rt, input, node, kept, slots, reports, buf, out);
-        if !held.going {
+    for _ in 0..u64::MAX {
+        let Ok(got) = input.read(buf) else {
+            return;
+        };
+        if got == 0 {
             return;
         }
-        turns -= 1;
+        held = take_in(rt, held, slots, reports, buf, got, out);
     }
 }
 
@@ -140,7 +106,11 @@ fn main(rt: HostRuntime) {
     let mut slots = [tables::UNOWNED; SLOTS];
     let mut reports = [0u64; tables::REPORTS];
     let mut buf = [0u8; PIECE];
-    let mut out = [0u8; TEXT];
+    let mut text = [0u8; TEXT];
+    let mut out = Writer {
+        bytes: &mut text,
+        end: 0,
+    };
     run(
         &rt,
         &mut rt.reader(),

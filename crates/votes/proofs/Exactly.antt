@@ -1,4 +1,5 @@
 -- A vote is granted exactly when the conditions of documents 01 and 02 hold.
+use Rattle.std.specs.Prelude.{None, Option, Some}
 use mathlib.Core.Path.{◌≡◌, refl, sym, ap, ◌∙◌}
 use mathlib.Core.Bool.{Bool, true, false, cond}
 use mathlib.Core.List.{List, [], ◌∷◌}
@@ -13,7 +14,6 @@ use Rattle.tables.specs.Lists.{first_at}
 use Rattle.tables.specs.Sets.{claimed}
 use Rattle.ages.specs.Ages.{age}
 use Rattle.claims.specs.Claims.{empty}
-use Rattle.tables.specs.declared.Found.TheVariants.{Nothing}
 use Rattle.answers.specs.declared.Answer.{Answer}
 use Rattle.answers.specs.declared.Answer.TheVariants.{Granted}
 use Rattle.state.specs.Node.{record_at, master_at, is_master, is_fail, owns, voting_master, role_at, followed}
@@ -23,8 +23,6 @@ use Rattle.state.specs.declared.Role.{Role}
 use Rattle.state.specs.declared.Role.TheVariants.{Master, Replica}
 use Rattle.state.specs.declared.Flag.{Flag}
 use Rattle.state.specs.declared.Flag.TheVariants.{Clear, Pfail, Fail}
-use Rattle.state.specs.declared.Moment.{Moment}
-use Rattle.state.specs.declared.Moment.TheVariants.{Never, At}
 use Rattle.state.specs.declared.Outcome.{Outcome}
 use Rattle.votes.specs.Votes.{follows_master, lately, request_checks, newer, granted, by_owners, requested}
 use Rattle.votes.specs.Grants.{ListedMaster, ListedReplica, Grantable}
@@ -54,7 +52,7 @@ is_replica n k m e = go (ltb k n.size) refl e
     go true q e = record { listed = ltb-true k n.size q; replica = e }
     go false q e = let z : ◌≡◌ {A = ℕ} 0 1 = cc in absurd (omega arith)
 
-rests : (n : Node) (v : Moment) → lately n v ≡ false → (t : ℕ) → v ≡ At t → 2 * n.timeout ≤ age n.clock t
+rests : (n : Node) (v : Option ℕ) → lately n v ≡ false → (t : ℕ) → v ≡ Some t → 2 * n.timeout ≤ age n.clock t
 rests n v e t q = ltb-false (age n.clock t) (2 * n.timeout) (ap (lately n) (sym q) ∙ e)
 
 owner_old : (n : Node) (bitmap : List ℕ) (config slot owner : ℕ) → newer n bitmap config slot owner ≡ false → claimed bitmap slot ≡ true → owner < n.size → (record_at n owner).config ≤ config
@@ -78,9 +76,9 @@ tests_claim bitmap slot c = go (empty bitmap) refl
     go true e = never (sym c ∙ (empty_exactly bitmap).none e slot)
     go false e = refl
 
-tests_rest : (n : Node) (v : Moment) → ((t : ℕ) → v ≡ At t → 2 * n.timeout ≤ age n.clock t) → lately n v ≡ false
-tests_rest n Never f = refl
-tests_rest n (At t) f = le-ltb (age n.clock t) (2 * n.timeout) (f t refl)
+tests_rest : (n : Node) (v : Option ℕ) → ((t : ℕ) → v ≡ Some t → 2 * n.timeout ≤ age n.clock t) → lately n v ≡ false
+tests_rest n None f = refl
+tests_rest n (Some t) f = le-ltb (age n.clock t) (2 * n.timeout) (f t refl)
 
 tests_owner : (n : Node) (bitmap : List ℕ) (config slot owner : ℕ) → (claimed bitmap slot ≡ true → owner < n.size → (record_at n owner).config ≤ config) → newer n bitmap config slot owner ≡ false
 tests_owner n bitmap config slot owner f = go (claimed bitmap slot) refl (ltb owner n.size) refl
@@ -98,7 +96,7 @@ module _ (n : Node) (slots bitmap : List ℕ) (candidate epoch config : ℕ) whe
   Holds = Grantable n slots bitmap candidate epoch config
 
   -- the conditions, where no check applied and no owner is newer
-  holds : Unrefused n slots bitmap candidate epoch config → first_at (newer n bitmap config) slots ≡ Nothing → Holds
+  holds : Unrefused n slots bitmap candidate epoch config → first_at (newer n bitmap config) slots ≡ None → Holds
   holds p e = go (role_at n candidate) refl (not-false _ (p 14))
     where
       since : (m : ℕ) (f : Flag) → (record_at n m).flag ≡ f → is_fail f ≡ true → (t : ℕ) × ((record_at n m).flag ≡ Fail t)
@@ -139,7 +137,7 @@ module _ (n : Node) (slots bitmap : List ℕ) (candidate epoch config : ℕ) whe
   unfolding requested
   grants g =
       let q = tests_role n candidate g.m g.candidate_follows in
-      let f : first_at (newer n bitmap config) slots ≡ Nothing = none_found (newer n bitmap config) 0 slots (λ k l. rw (zero-add k) (tests_owner n bitmap config k (get_or slots k 0) (g.owners k l))) in
+      let f : first_at (newer n bitmap config) slots ≡ None = none_found (newer n bitmap config) 0 slots (λ k l. rw (zero-add k) (tests_owner n bitmap config k (get_or slots k 0) (g.owners k l))) in
       ap (λ (r : Role). checked (answered n) (request_checks n slots r bitmap epoch) (by_owners n (followed r) epoch (first_at (newer n bitmap config) slots))) q
       ∙ (rw (tests_voting n slots n.me g.own (record { place = g.own_slot; within = g.owned; there = g.mine }), le-ltb epoch n.current g.current, lt-leb epoch n.voted g.unvoted, tests_master n g.m g.master, tests_claim bitmap g.slot g.claims, g.fail, tests_rest n (record_at n g.m).vote g.rested, f))
       ∙ ap (λ (r : Role). answered (granted (followed r) epoch n) Granted) (sym q)

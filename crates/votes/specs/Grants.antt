@@ -1,6 +1,6 @@
 -- When a vote is granted: the conditions of document 01, "Vote request", and of document 02, [3] and [10], each as a
 -- statement; and what a request makes of the node. Now is the clock.
-use Rattle.std.specs.Prelude.{ℕ, ◌*◌, ◌≤◌, ◌<◌, ◌≡◌, true, List, length, get_or}
+use Rattle.std.specs.Prelude.{ℕ, ◌*◌, ◌≤◌, ◌<◌, ◌≡◌, true, List, length, get_or, Some}
 use Rattle.tables.specs.Sets.{claimed}
 use Rattle.ages.specs.Ages.{age}
 use Rattle.answers.specs.declared.Answer.TheVariants.{Granted}
@@ -8,7 +8,6 @@ use Rattle.state.specs.Node.{record_at, role_at, followed}
 use Rattle.state.specs.declared.Node.{Node}
 use Rattle.state.specs.declared.Role.TheVariants.{Master, Replica}
 use Rattle.state.specs.declared.Flag.TheVariants.{Fail}
-use Rattle.state.specs.declared.Moment.TheVariants.{At}
 use Rattle.state.specs.declared.Outcome.{Outcome}
 use Rattle.soundness.specs.Sound.{sound}
 use Rattle.votes.specs.Votes.{granted, requested}
@@ -44,7 +43,7 @@ pub record Grantable (n : Node) (slots bitmap : List ℕ) (candidate epoch confi
   pub since : ℕ
   pub fail : (record_at n m).flag ≡ Fail since
   -- no vote for one of its replicas is less than 2T old
-  pub rested : (t : ℕ) → (record_at n m).vote ≡ At t → 2 * n.timeout ≤ age n.clock t
+  pub rested : (t : ℕ) → (record_at n m).vote ≡ Some t → 2 * n.timeout ≤ age n.clock t
   -- no claimed slot has an owner in the roster with a configEpoch above the request's
   pub owners : (slot : ℕ) → slot < length slots → claimed bitmap slot ≡ true → get_or slots slot 0 < n.size → (record_at n (get_or slots slot 0)).config ≤ config
 

@@ -1,9 +1,7 @@
 -- A vote request, past the refusals: document 01, "Vote request", and document 02, [3] and [10]. Now is the clock.
-use Rattle.std.specs.Prelude.{ℕ, Bool, false, not, List, [], ◌∷◌, ltb, leb}
+use Rattle.std.specs.Prelude.{ℕ, Bool, false, not, List, [], ◌∷◌, ltb, leb, None, Option, Some}
 use Rattle.tables.specs.Checks.{checked}
 use Rattle.tables.specs.Lists.{first_at}
-use Rattle.tables.specs.declared.Found.{Found}
-use Rattle.tables.specs.declared.Found.TheVariants.{Nothing, At as Slot}
 use Rattle.ages.specs.Ages.{age, under_twice}
 use Rattle.claims.specs.Claims.{empty, newer_owner}
 use Rattle.answers.specs.declared.Answer.{Answer}
@@ -14,8 +12,6 @@ use Rattle.state.specs.Outcomes.{answered}
 use Rattle.state.specs.declared.Node.{Node}
 use Rattle.state.specs.declared.Role.{Role}
 use Rattle.state.specs.declared.Role.TheVariants.{Master, Replica}
-use Rattle.state.specs.declared.Moment.{Moment}
-use Rattle.state.specs.declared.Moment.TheVariants.{Never, At}
 use Rattle.state.specs.declared.Outcome.{Outcome}
 
 -- 14: the replica of a listed master
@@ -24,9 +20,9 @@ follows_master n Master = false
 follows_master n (Replica m) = master_at n m
 
 -- 16: less than 2T old
-abbrev pub lately : Node → Moment → Bool
-lately n Never = false
-lately n (At t) = under_twice n.timeout (age n.clock t)
+abbrev pub lately : Node → Option ℕ → Bool
+lately n None = false
+lately n (Some t) = under_twice n.timeout (age n.clock t)
 
 -- 11 to 14, 18, 15 and 16, in that order, by the slot table lent and for a candidate of that role
 abbrev pub request_checks : Node → List ℕ → Role → List ℕ → ℕ → List (Bool × Answer)
@@ -46,12 +42,12 @@ newer n bitmap config = newer_owner n.size (λ o. (record_at n o).config) bitmap
 
 -- 10: lastVoteEpoch is the epoch, and the vote time of the candidate's master is now
 unfoldable pub granted : ℕ → ℕ → Node → Node
-granted m epoch n = with_voted epoch (on_record m (with_vote (At n.clock)) n)
+granted m epoch n = with_voted epoch (on_record m (with_vote (Some n.clock)) n)
 
 -- 17 with the lowest such slot, else 10
-abbrev pub by_owners : Node → ℕ → ℕ → Found → Outcome
-by_owners n m epoch (Slot slot) = answered n (Outdated slot)
-by_owners n m epoch Nothing = answered (granted m epoch n) Granted
+abbrev pub by_owners : Node → ℕ → ℕ → Option ℕ → Outcome
+by_owners n m epoch (Some slot) = answered n (Outdated slot)
+by_owners n m epoch None = answered (granted m epoch n) Granted
 
 unfoldable pub requested : Node → List ℕ → List ℕ → ℕ → ℕ → ℕ → Outcome
 requested n slots bitmap candidate epoch config =

@@ -4,24 +4,23 @@
 
 ghost use Rattle.std.specs.Prelude.{◌≡◌};
 ghost use Rattle.tables.specs.Checks.{checked};
-ghost use Rattle.answers.specs.declared.Check.TheVariants.{Passed, Refused};
 ghost use Rattle.state.specs.Node.{record_at, voting_master, role_at, followed};
+ghost use Rattle.answers.specs.Refusing.{cleared};
 ghost use Rattle.votes.specs.Votes.{follows_master, lately, request_checks, requested};
 
 use answers::{Answer, Check};
-use state::{Moment, Node, Outcome, Record, Role};
-use tables::{Found, NODES};
+use state::{Node, Outcome, Record, Role};
 
 // The role of number k, by what is known of it; a number outside the roster is nobody's replica.
 fn role_of(node: Node, k: u8, known: Record) -> Role
     requires { known ≡ record_at node k }
     ensures { result ≡ role_at node k }
 {
-    if k as u16 >= node.size {
-        return Role::Master;
+    if u16::from(k) < node.size {
+        known.role
+    } else {
+        Role::Master
     }
-    let role = known.role;
-    role
 }
 
 // Whether that role is a listed master's replica, by what is known of the one followed.
@@ -31,23 +30,14 @@ fn follows_master(node: Node, role: Role, known: Record) -> bool
 {
     match role {
         Role::Master => false,
-        Role::Replica(m) => {
-            if m as u16 >= node.size {
-                return false;
-            }
-            let its = known.role;
-            state::is_master(its)
-        }
+        Role::Replica(m) => u16::from(m) < node.size && state::is_master(known.role),
     }
 }
 
-fn lately(node: Node, vote: Moment) -> bool
+fn lately(node: Node, vote: Option<u64>) -> bool
     ensures { result ≡ lately node vote }
 {
-    match vote {
-        Moment::Never => false,
-        Moment::At(t) => ages::under_twice(node.timeout, ages::age(node.clock, t)),
-    }
+    vote.is_some_and(|t| ages::under_twice(node.timeout, ages::age(node.clock, t)))
 }
 
 // Whether this node is a voting master, by what is known of it. The table is asked last: that may read all of it.
@@ -55,14 +45,7 @@ fn is_voting(node: Node, mine: Record, slots: &[u16]) -> bool
     requires { mine ≡ record_at node node.me }
     ensures { result ≡ voting_master node slots.now node.me }
 {
-    if node.me >= node.size {
-        return false;
-    }
-    let own = mine.role;
-    if state::is_master(own) {} else {
-        return false;
-    }
-    state::owns(slots, node.me)
+    node.me < node.size && state::is_master(mine.role) && state::owns(slots, node.me)
 }
 
 // 11 to 16 and 18, by what is known of this node and of the one that the candidate follows, and by the slot table.
@@ -77,35 +60,34 @@ fn request_refusal(
 ) -> Check
     requires mine_value { mine ≡ record_at node node.me }
     requires known_value { known ≡ record_at node (followed role) }
-    ensures { result ≡ checked Refused (request_checks node slots.now role bitmap.now epoch) Passed }
+    ensures { result ≡ checked Err (request_checks node slots.now role bitmap.now epoch) cleared }
 {
     if !is_voting(node, mine, slots) {
-        return Check::Refused(Answer::NotVoting);
+        return Err(Answer::NotVoting);
     }
     if epoch < node.current {
-        return Check::Refused(Answer::StaleEpoch);
+        return Err(Answer::StaleEpoch);
     }
     if epoch <= node.voted {
-        return Check::Refused(Answer::AlreadyVoted);
+        return Err(Answer::AlreadyVoted);
     }
     if !follows_master(node, role, known) {
-        return Check::Refused(Answer::NoListedMaster);
+        return Err(Answer::NoListedMaster);
     }
     if claims::empty(bitmap) {
-        return Check::Refused(Answer::ClaimsNothing);
+        return Err(Answer::ClaimsNothing);
     }
-    let flag = known.flag;
-    if !state::is_fail(flag) {
-        return Check::Refused(Answer::MasterNotFailed);
+    if !state::is_fail(known.flag) {
+        return Err(Answer::MasterNotFailed);
     }
-    let vote = known.vote;
-    if lately(node, vote) {
-        return Check::Refused(Answer::VotedLately);
+    if lately(node, known.vote) {
+        return Err(Answer::VotedLately);
     }
-    Check::Passed
+    Ok(())
 }
 
 // A vote request, after the clock and currentEpoch have moved.
+#[tactic(auto, using(records::proofs::Known::place_inside))]
 pub fn request(
     node: Node,
     slots: &[u16],
@@ -128,28 +110,20 @@ pub fn request(
     let at = records::place_of(m);
     let there = next.records[at];
     let known = records::known_of(m, there);
-    let check = request_refusal(next, mine, role, known, slots, bitmap, epoch);
-    let mut answer = Answer::Granted;
-    match check {
-        Check::Refused(why) => answer = why,
-        Check::Passed => {
-            let listed = records::listed(next.size);
-            let mut configs = [0u64; NODES];
-            let mut k: usize = 0;
-            while k < listed {
-                let other = next.records[k];
-                configs[k] = other.config;
-                k += 1;
-            }
+    let answer = match request_refusal(next, mine, role, known, slots, bitmap, epoch) {
+        Err(why) => why,
+        Ok(()) => {
+            let configs = records::configs(&next.records, next.size);
             match claims::first_newer(next.size, &configs, slots, bitmap, config) {
-                Found::At(slot) => answer = Answer::Outdated(slot),
-                Found::Nothing => {
-                    let voted = changes::with_vote(there, Moment::At(next.clock));
+                Some(slot) => Answer::Outdated(slot),
+                None => {
+                    let voted = changes::with_vote(there, Some(next.clock));
                     next.records[at] = records::kept_of(m, voted, there);
                     next.voted = epoch;
+                    Answer::Granted
                 }
             }
         }
-    }
+    };
     Outcome { answer, node: next }
 }

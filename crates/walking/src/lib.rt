@@ -2,7 +2,7 @@
 // (`rt staticlib walking`): what the compiler makes of a function goes by what stands beside it.
 #![tactic(auto)]
 
-ghost use Rattle.std.specs.Prelude.{◌≡◌, ◌<◌};
+ghost use Rattle.std.specs.Prelude.{◌≡◌};
 ghost use Rattle.routing.specs.Replies.{reply};
 ghost use Rattle.cache.specs.Cache.{map_of};
 ghost use Rattle.walking.specs.Walking.{reply_of, key_of, begun, walked, word, end_digest, stage_digest, first_of, last_of, key_digest, lookup_digest, digested};
@@ -15,44 +15,29 @@ use routing::Redirect;
 fn redirect_of(code: u64) -> Redirect
     ensures { reply result ≡ reply_of code }
 {
-    let kind = code % 65536;
-    if kind == 0 {
-        return Redirect::Serve;
-    }
-    if kind == 1 {
-        return Redirect::WrongLength;
-    }
-    if kind == 7 {
-        return Redirect::Unsound;
-    }
-    if kind == 2 {
-        return Redirect::Down;
-    }
     let slot = (code / 65536 % 65536) as u16;
     let node = (code / 4294967296 % 65536) as u16;
-    if kind == 3 {
-        return Redirect::Ask { slot, peer: node };
-    }
-    Redirect::Moved {
-        slot,
-        owner: node,
-        epoch: code / 281474976710656 % 65536,
+    match code % 65536 {
+        0 => Redirect::Serve,
+        1 => Redirect::WrongLength,
+        7 => Redirect::Unsound,
+        2 => Redirect::Down,
+        3 => Redirect::Ask { slot, peer: node },
+        _ => Redirect::Moved {
+            slot,
+            owner: node,
+            epoch: code / 281474976710656 % 65536,
+        },
     }
 }
 
 // ---- a lookup in one number
 
-fn wide(x: u8) -> u32
-    ensures { (result ≡ x) × (result < 256) }
-{
-    x as u32
-}
-
 // Three numbers in 32 bits.
 fn word(high: u8, middle: u8, low: u16) -> u32
     ensures { result ≡ word high middle low }
 {
-    low as u32 + wide(middle) * 65536 + wide(high) * 16777216
+    u32::from(low) + u32::from(middle) * 65536 + u32::from(high) * 16777216
 }
 
 fn of_end(end: End) -> u32
@@ -62,9 +47,9 @@ fn of_end(end: End) -> u32
         End::Served(node) => word(2, 0, node),
         End::Bad => word(3, 0, 0),
         End::Down => word(4, 0, 0),
-        End::Declined(number) => word(5, 0, number as u16),
+        End::Declined(number) => word(5, 0, u16::from(number)),
         End::TooMany => word(6, 0, 0),
-        End::Refused(number) => word(7, 0, number as u16),
+        End::Refused(number) => word(7, 0, u16::from(number)),
         End::Stale => word(8, 0, 0),
     }
 }
@@ -73,12 +58,7 @@ fn of_stage(stage: Stage) -> u32
     ensures { result ≡ stage_digest stage }
 {
     match stage {
-        Stage::Asking(question) => {
-            if question.asking {
-                return word(1, question.hops, question.node);
-            }
-            word(0, question.hops, question.node)
-        }
+        Stage::Asking(question) => word(u8::from(question.asking), question.hops, question.node),
         Stage::Ended(end) => of_end(end),
     }
 }
@@ -86,36 +66,27 @@ fn of_stage(stage: Stage) -> u32
 fn first_of(text: &[u8]) -> u8
     ensures { result ≡ first_of text.now }
 {
-    if text.len() == 0 {
-        return 0;
-    }
-    text[0]
+    text.first().copied().unwrap_or(0)
 }
 
 fn last_of(text: &[u8]) -> u8
     ensures { result ≡ last_of text.now }
 {
-    if text.len() == 0 {
-        return 0;
-    }
-    text[text.len() - 1]
+    text.last().copied().unwrap_or(0)
 }
 
 fn of_key(key: Key) -> u32
     ensures { result ≡ key_digest key }
 {
-    let bytes = key.bytes;
-    let text = lookups::part(&bytes, key.length);
+    let text = lookups::part(&key.bytes, key.length);
     word(last_of(text), first_of(text), (key.length % 65536) as u16)
 }
 
 fn of_lookup(lookup: Lookup) -> u64
     ensures { result ≡ lookup_digest lookup }
 {
-    let household = lookup.household;
-    let stage = lookup.stage;
-    let key = lookup.key;
-    household ^ (of_stage(stage) as u64 + of_key(key) as u64 * 4294967296)
+    lookup.household
+        ^ (u64::from(of_stage(lookup.stage)) + u64::from(of_key(lookup.key)) * 4294967296)
 }
 
 // A household's lookup of a key, which takes the replies one after the other. What they teach goes into the map and the epochs
@@ -132,10 +103,8 @@ pub extern "C" fn ukweribaso_lookup(
     ensures { record { digest = result; map = map_of map.new epochs.new } ≡ digested (walked size (begun (map_of map.old epochs.old) size household (key_of key.now)) replies.now) }
 {
     let mut lookup = gateway::start(map, epochs, size, household, lookups::key_of(key));
-    let mut i: usize = 0;
-    while i < replies.len() {
-        lookup = gateway::take(lookup, map, epochs, size, redirect_of(replies[i]));
-        i += 1;
+    for code in replies {
+        lookup = gateway::take(lookup, map, epochs, size, redirect_of(*code));
     }
     of_lookup(lookup)
 }

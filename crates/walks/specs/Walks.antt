@@ -1,9 +1,8 @@
 -- A lookup's way over the nodes of a run (docs/REPLAY.md): each question goes to the node that the lookup asks, with that node's own
 -- slot table, and the node has the key exactly if it is named behind `held`.
-use Rattle.std.specs.Prelude.{ℕ, zero, suc, ◌+◌, ◌*◌, ◌%◌, ◌-◌, ◌≡◌, Bool, true, false, cond, List, [], ◌∷◌, get_or, take, drop, eqb}
+use Rattle.std.specs.Prelude.{ℕ, zero, suc, ◌+◌, ◌*◌, ◌%◌, ◌-◌, ◌≡◌, Bool, true, false, cond, List, [], ◌∷◌, get_or, take, drop, eqb, None}
 use Rattle.tables.specs.Sizes.{slot_count}
 use Rattle.state.specs.declared.Node.{Node}
-use Rattle.state.specs.declared.Election.TheVariants.{Closed}
 use Rattle.calls.specs.declared.Call.{Call}
 use Rattle.seats.specs.declared.Seat.{Seat}
 use Rattle.lookups.specs.Lookups.{most_hops}
@@ -21,7 +20,7 @@ run_room = 16
 -- what reading past the end of the nodes gives; no question goes there
 abbrev pub no_seat : Seat
 no_seat = record {
-  node = record { ids = []; records = []; marks = []; size = 0; me = 0; marked = 0; current = 0; voted = 0; clock = 0; timeout = 0; election = Closed };
+  node = record { ids = []; records = []; marks = []; size = 0; me = 0; marked = 0; current = 0; voted = 0; clock = 0; timeout = 0; election = None };
   kept = record { bytes = []; length = 0 };
 }
 

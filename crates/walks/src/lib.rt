@@ -1,13 +1,13 @@
 // A lookup of the gateway (document 02, [4] and [5]), walked over the nodes of a run and told: docs/REPLAY.md.
 #![tactic(auto)]
 
-ghost use Rattle.std.specs.Prelude.{◌≡◌, ◌%◌};
+ghost use Rattle.std.specs.Prelude.{◌≡◌, ◌%◌, take};
 ghost use Rattle.cache.specs.Cache.{map_of};
 ghost use Rattle.gateway.specs.Gateway.{asked};
-ghost use Rattle.walks.specs.Walks.{most_questions, table_of, among, words_from, walked, LookedUp};
+ghost use Rattle.walks.specs.Walks.{most_questions, table_of, holds, walked, LookedUp};
 
-use accounts::Cached;
 use calls::Call;
+use lines::Writer;
 use lookups::{Key, Lookup, Question, Stage};
 use seats::Seat;
 use sources::Source;
@@ -21,51 +21,35 @@ const SLOTS: usize = tables::SLOTS as usize;
 // The place of the first word behind `held`.
 const HELD: usize = 4;
 
-// The entry that the map has for the key's slot.
-fn cached_entry(map: &[u16], epochs: &[u64], size: u16, key: Key) -> Cached {
+// The epoch of the entry that the map has for the key's slot. The map is two lists here and below, as `gateway` takes it from C.
+fn cached_epoch(map: &[u16], epochs: &[u64], size: u16, key: Key) -> Option<u64> {
     let slot = lookups::slot(key);
     if cache::owner_at(map, slot) >= size {
-        return Cached::Nothing;
+        return None;
     }
-    Cached::At(cache::held_epoch(map, epochs, size, slot))
+    Some(cache::held_epoch(map, epochs, size, slot))
 }
 
-// A node is named behind `held`, by the numbers of so many words.
-fn is_named(numbers: &[u64], words: usize, node: u16) -> bool
-    ensures { result ≡ among node (words_from 4 words numbers.now) }
+// So many entries of a list; all of one that has fewer.
+fn front<T>(list: &[T], n: usize) -> &[T]
+    ensures { result.now ≡ take n list.now }
 {
-    let mut place = HELD;
-    while place < words {
-        if place >= numbers.len() {
-            return false;
-        }
-        if numbers[place] == node as u64 {
-            return true;
-        }
-        place += 1;
-    }
-    false
+    if n < list.len() { &list[..n] } else { list }
+}
+
+// A node is named behind `held`.
+fn is_named(call: Call, node: u16) -> bool
+    ensures { result ≡ holds call node }
+{
+    front(&call.numbers[HELD..], call.words.saturating_sub(HELD)).contains(&u64::from(node))
 }
 
 // A node's slot table, in the list of all.
 fn table(slots: &[u16], node: u16) -> &[u16]
     ensures { result.now ≡ table_of slots.now node }
 {
-    let from = node as usize % ROOM * SLOTS;
-    if from > slots.len() {
-        return &slots[..0];
-    }
-    if slots.len() - from < SLOTS {
-        return &slots[from..];
-    }
-    &slots[from..from + SLOTS]
-}
-
-// A lookup on its way, and where its account ends.
-#[derive(Clone, Copy)]
-struct Walked {
-    lookup: Lookup,
-    at: usize,
+    let from = usize::from(node) % ROOM * SLOTS;
+    front(&slots[from.min(slots.len())..], SLOTS)
 }
 
 // One question, to the node that the lookup asks, with that node's table. It is routed once more for the words of the reply.
@@ -78,20 +62,16 @@ fn ask(
     node: Node,
     table: &[u16],
     present: bool,
-    out: &mut [u8],
-    at: usize,
-) -> Walked
-    ensures { record { lookup = result.lookup; map = map_of map.new epochs.new } ≡ asked lookup (map_of map.old epochs.old) size node table.now present }
+    out: &mut Writer,
+) -> Lookup
+    ensures { record { lookup = result; map = map_of map.new epochs.new } ≡ asked lookup (map_of map.old epochs.old) size node table.now present }
 {
     let key = lookup.key;
-    let bytes = key.bytes;
-    let name = lookups::part(&bytes, key.length);
-    let cached = cached_entry(map, epochs, size, key);
+    let name = lookups::part(&key.bytes, key.length);
+    let cached = cached_epoch(map, epochs, size, key);
     let redirect = routing::route(node, table, name, present, question.asking);
-    Walked {
-        lookup: gateway::ask(lookup, map, epochs, size, node, table, present),
-        at: accounts::put_question(out, at, question, cached, redirect),
-    }
+    accounts::put_question(out, question, cached, redirect);
+    gateway::ask(lookup, map, epochs, size, node, table, present)
 }
 
 // The questions of a lookup, one after the other: one more than the redirections that are followed.
@@ -103,34 +83,21 @@ fn walk(
     seats: [Seat; ROOM],
     slots: &[u16],
     call: Call,
-    out: &mut [u8],
-    at: usize,
-) -> Walked
-    ensures { record { lookup = result.lookup; map = map_of map.new epochs.new } ≡ walked seats slots.now call size most_questions start (map_of map.old epochs.old) }
+    out: &mut Writer,
+) -> Lookup
+    ensures { record { lookup = result; map = map_of map.new epochs.new } ≡ walked seats slots.now call size most_questions start (map_of map.old epochs.old) }
 {
-    let numbers = call.numbers;
     let mut lookup = start;
-    let mut end = at;
-    let mut left = lookups::HOPS + 1;
-    while left > 0 {
-        let stage = lookup.stage;
-        match stage {
-            Stage::Ended(_) => {
-                return Walked { lookup, at: end };
-            }
-            Stage::Asking(q) => {
-                let present = is_named(&numbers, call.words, q.node);
-                let table = table(slots, q.node);
-                let here = seats[q.node as usize % ROOM];
-                let node = here.node;
-                let next = ask(lookup, q, map, epochs, size, node, table, present, out, end);
-                lookup = next.lookup;
-                end = next.at;
-                left -= 1;
-            }
-        }
+    for _asked in 0..lookups::HOPS + 1 {
+        let Stage::Asking(q) = lookup.stage else {
+            return lookup;
+        };
+        let present = is_named(call, q.node);
+        let table = table(slots, q.node);
+        let here = seats[usize::from(q.node) % ROOM];
+        lookup = ask(lookup, q, map, epochs, size, here.node, table, present, out);
     }
-    Walked { lookup, at: end }
+    lookup
 }
 
 // A line that says a lookup, done and told. The nodes stay as they are.
@@ -142,17 +109,15 @@ pub fn look_up(
     slots: &[u16],
     source: Source,
     call: Call,
-    out: &mut [u8],
-    at: usize,
-) -> usize
+    out: &mut Writer,
+)
     ensures { LookedUp seats slots.now call (size % 65536) (map_of map.old epochs.old) (map_of map.new epochs.new) }
 {
     let kept = source.kept;
-    let bytes = kept.bytes;
     let roster = seats::short(size);
-    let key = lookups::key_of(calls::word(sources::characters(&bytes, kept.length), 2));
+    let key = lookups::key_of(calls::word(sources::characters(&kept.bytes, kept.length), 2));
     let lookup = gateway::start(map, epochs, roster, call.numbers[1], key);
-    let begin = accounts::put_start(out, at, source.count, lookup);
-    let walked = walk(lookup, map, epochs, roster, seats, slots, call, out, begin);
-    accounts::put_account(out, walked.at, walked.lookup)
+    accounts::put_start(out, source.count, lookup);
+    let walked = walk(lookup, map, epochs, roster, seats, slots, call, out);
+    accounts::put_account(out, walked);
 }

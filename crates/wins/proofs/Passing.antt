@@ -1,4 +1,5 @@
 -- Which slots pass at a win.
+use Rattle.std.specs.Prelude.{None}
 use mathlib.Core.Path.{◌≡◌, refl, sym, ap, subst, ◌∙◌}
 use mathlib.Core.Bool.{Bool, true, false, not, cond, ◌&&◌}
 use mathlib.Core.List.{List}
@@ -19,7 +20,6 @@ use Rattle.state.specs.declared.Node.{Node}
 use Rattle.state.specs.declared.Record.{Record}
 use Rattle.state.specs.declared.Role.{Role}
 use Rattle.state.specs.declared.Role.TheVariants.{Master, Replica}
-use Rattle.state.specs.declared.Election.TheVariants.{Closed}
 use Rattle.records.specs.Known.{in_room, place_of}
 use Rattle.records.proofs.Known.{known_there, changed_there}
 use Rattle.wins.specs.Wins.{passes, Passing, handed_over, yields, passing, winner, promoted}
@@ -85,6 +85,6 @@ module _ (n : Node) (room : length n.records ≡ node_room) where
 
   pub promoted_there : (epoch at : ℕ) (there master won kept : Record)
       → at ≡ place_of n.me → there ≡ get_or n.records at blank → master ≡ with_role Master there → won ≡ with_config epoch master → kept ≡ in_room n.me won there
-      → with_election Closed (with_records (set n.records at kept) n) ≡ promoted epoch n
+      → with_election None (with_records (set n.records at kept) n) ≡ promoted epoch n
   unfolding promoted
-  promoted_there epoch at there master won kept ea et em ew ek = rw (ek, ew, em, et, ea) (ap (λ (rs : List Record). with_election Closed (with_records rs n)) (changed_there n.records room n.me (winner epoch)))
+  promoted_there epoch at there master won kept ea et em ew ek = rw (ek, ew, em, et, ea) (ap (λ (rs : List Record). with_election None (with_records rs n)) (changed_there n.records room n.me (winner epoch)))

@@ -1,5 +1,5 @@
 -- An election won: document 01, "Election", answer 30, with document 02, [14].
-use Rattle.std.specs.Prelude.{ℕ, Bool, false, cond, ◌&&◌, List, eqb, ltb}
+use Rattle.std.specs.Prelude.{ℕ, Bool, false, cond, ◌&&◌, List, eqb, ltb, None}
 use Rattle.tables.specs.Lists.{map_at, count_at}
 use Rattle.answers.specs.declared.Answer.TheVariants.{Won}
 use Rattle.state.specs.Node.{record_at, role_at, followed}
@@ -9,7 +9,6 @@ use Rattle.state.specs.declared.Node.{Node}
 use Rattle.state.specs.declared.Record.{Record}
 use Rattle.state.specs.declared.Role.{Role}
 use Rattle.state.specs.declared.Role.TheVariants.{Master, Replica}
-use Rattle.state.specs.declared.Election.TheVariants.{Closed}
 
 -- does a slot pass, by its owner: the old master's do, if its known configEpoch is below the election's epoch; a node that
 -- follows none has no old master
@@ -41,7 +40,7 @@ abbrev pub winner : ℕ → Record → Record
 winner epoch r = with_config epoch (with_role Master r)
 
 unfoldable pub promoted : ℕ → Node → Node
-promoted epoch n = with_election Closed (on_record n.me (winner epoch) n)
+promoted epoch n = with_election None (on_record n.me (winner epoch) n)
 
 -- 30, whether any slot passes or none does
 abbrev pub won : Node → List ℕ → ℕ → Slotted

@@ -6,20 +6,18 @@ ghost use Rattle.state.specs.declared.Role.TheVariants.{Master};
 ghost use Rattle.wins.specs.Wins.{passes, handed_over, won};
 
 use answers::Answer;
-use state::{Election, Node, Outcome, Record, Role};
+use state::{Node, Outcome, Record, Role};
 
 // Every slot of one owner goes to another, and how many did.
 fn pass_on(slots: &mut [u16], old: u16, me: u16) -> usize
     ensures { record { count = result; slots = slots.new } ≡ handed_over (λ owner. eqb owner old) me slots.old }
 {
-    let mut count: usize = 0;
-    let mut s: usize = 0;
-    while s < slots.len() {
-        if slots[s] == old {
-            slots[s] = me;
+    let mut count = 0;
+    for owner in slots.iter_mut() {
+        if *owner == old {
+            *owner = me;
             count += 1;
         }
-        s += 1;
     }
     count
 }
@@ -34,7 +32,7 @@ fn take_over(slots: &mut [u16], role: Role, me: u16, config: u64, epoch: u64) ->
     }
     match role {
         Role::Master => 0,
-        Role::Replica(old) => pass_on(slots, old as u16, me),
+        Role::Replica(old) => pass_on(slots, u16::from(old), me),
     }
 }
 
@@ -42,29 +40,26 @@ fn take_over(slots: &mut [u16], role: Role, me: u16, config: u64, epoch: u64) ->
 fn own_role(known: Record, me: u16, size: u16) -> Role
     ensures { result ≡ cond (ltb me size) known.role Master }
 {
-    if me < size {
-        let role = known.role;
-        return role;
-    }
-    Role::Master
+    if me < size { known.role } else { Role::Master }
 }
 
 // A master with the election's epoch, and the election is closed, whatever passes.
+#[tactic(auto, using(records::proofs::Known::place_inside))]
 pub fn won(node: Node, slots: &mut [u16], epoch: u64) -> Outcome
     ensures { record { outcome = result; slots = slots.new } ≡ won node slots.old epoch }
 {
-    let me = node.me as usize;
+    let me = usize::from(node.me);
     let own = records::place_of(me);
     let mut next = node;
     let there = next.records[own];
     let role = own_role(records::known_of(me, there), node.me, node.size);
-    let old = state::followed(role) as usize;
+    let old = usize::from(state::followed(role));
     let master = records::known_of(old, next.records[records::place_of(old)]);
     let count = take_over(slots, role, node.me, master.config, epoch);
     let winner = changes::with_config(changes::with_role(there, Role::Master), epoch);
     next.records[own] = records::kept_of(me, winner, there);
     Outcome {
         answer: Answer::Won(count),
-        node: changes::with_election(next, Election::Closed),
+        node: changes::with_election(next, None),
     }
 }

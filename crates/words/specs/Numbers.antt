@@ -1,8 +1,7 @@
 -- Numbers and ranges of slots, as words.
-use Rattle.std.specs.Prelude.{ℕ, ◌+◌, ◌-◌, ◌*◌, Bool, true, false, cond, List, [], ◌∷◌, length, take, drop, eqb, ltb, leb}
+use Rattle.std.specs.Prelude.{ℕ, ◌+◌, ◌-◌, ◌*◌, Bool, cond, List, [], ◌∷◌, length, take, drop, eqb, ltb, leb, Ok, Err, Result}
 use Rattle.tables.specs.Checks.{all_of}
 use Rattle.words.specs.Words.{up_to}
-use Rattle.words.specs.declared.Fit.{Fit}
 
 -- the greatest number that is read; one more stands for all that are greater, and for what is no number
 abbrev pub most : ℕ
@@ -36,9 +35,9 @@ least_of kind = cond (eqb kind 0x7a) 1 (cond (eqb kind 0x54) 100 0)
 abbrev pub most_of : ℕ → ℕ
 most_of kind = cond (eqb kind 0x7a) 16 (cond (eqb kind 0x54) 600_000 (cond (eqb kind 0x6f) 65_535 (cond (eqb kind 0x74) most 255)))
 
--- a number of a kind
-unfoldable pub number_of : List ℕ → ℕ → Fit
-number_of word kind = record { right = between (least_of kind) (most_of kind) (value word); value = value word }
+-- a number of a kind, or the number that does not fit there
+unfoldable pub number_of : List ℕ → ℕ → Result ℕ ℕ
+number_of word kind = cond (between (least_of kind) (most_of kind) (value word)) (Ok (value word)) (Err (value word))
 
 -- ---- ranges: a slot, or two with a dash
 

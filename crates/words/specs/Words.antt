@@ -1,12 +1,10 @@
 -- The words of a line: docs/REPLAY.md, "What a file says".
-use Rattle.std.specs.Prelude.{ℕ, Bool, true, false, cond, List, [], ◌∷◌, length, take, eqb}
-use Rattle.tables.specs.declared.Found.{Found}
-use Rattle.tables.specs.declared.Found.TheVariants.{Nothing, At}
+use Rattle.std.specs.Prelude.{ℕ, Bool, true, false, cond, List, [], ◌∷◌, length, take, eqb, None, Option, Some}
 use Rattle.tables.specs.Lists.{first_byte}
 
-abbrev pub place_or : Found → ℕ → ℕ
-place_or Nothing n = n
-place_or (At k) n = k
+abbrev pub place_or : Option ℕ → ℕ → ℕ
+place_or None n = n
+place_or (Some k) n = k
 
 -- where a byte first stands, or the text's end
 unfoldable pub up_to : ℕ → List ℕ → ℕ

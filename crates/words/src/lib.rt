@@ -6,23 +6,11 @@ ghost use Rattle.std.specs.Prelude.{◌≡◌, ◌≤◌, length};
 ghost use Rattle.words.specs.Words.{up_to, said, same};
 ghost use Rattle.words.specs.Numbers.{between, capped, longer, value, least_of, most_of, number_of, first_slot, last_slot, is_range, kept};
 
-use tables::Found;
-
-// Whether a word fits where it stands, and the number that it says.
-#[derive(Clone, Copy)]
-pub struct Fit {
-    pub right: bool,
-    pub value: u64,
-}
-
 // Where a byte first stands, or the text's end.
 fn up_to(text: &[u8], byte: u8) -> usize
     ensures { (result ≡ up_to byte text.now) × (result ≤ length text.now) }
 {
-    match tables::first_byte(text, byte) {
-        Found::Nothing => text.len(),
-        Found::At(k) => k,
-    }
+    tables::first_byte(text, byte).unwrap_or(text.len())
 }
 
 // The line without its comment.
@@ -33,20 +21,11 @@ pub fn said(line: &[u8]) -> &[u8]
     &line[..end]
 }
 
+#[tactic(auto, using(crate::proofs::Words::equal))]
 pub fn same(a: &[u8], b: &[u8]) -> bool
     ensures { result ≡ same a.now b.now }
 {
-    let mut i: usize = 0;
-    while i < a.len() {
-        if i >= b.len() {
-            return false;
-        }
-        if a[i] != b[i] {
-            return false;
-        }
-        i += 1;
-    }
-    i == b.len()
+    a == b
 }
 
 // The greatest number that is read; one more stands for all that are greater, and for what is no number.
@@ -55,19 +34,13 @@ const MOST: u64 = 1000000000000000000;
 pub fn between(v: u64, low: u64, high: u64) -> bool
     ensures { result ≡ between low high v }
 {
-    if v < low {
-        return false;
-    }
-    v <= high
+    low <= v && v <= high
 }
 
 fn capped(v: u64) -> u64
     ensures { (result ≡ capped v) × (result ≤ 1000000000000000001) }
 {
-    if v > MOST {
-        return MOST + 1;
-    }
-    v
+    v.min(MOST + 1)
 }
 
 // A number with a character behind it.
@@ -75,73 +48,64 @@ fn longer(v: u64, c: u8) -> u64
     requires { v ≤ 1000000000000000001 }
     ensures { (result ≡ longer v c) × (result ≤ 1000000000000000001) }
 {
-    if c < b'0' {
+    if c < b'0' || c > b'9' {
         return MOST + 1;
     }
-    if c > b'9' {
-        return MOST + 1;
-    }
-    capped(v * 10 + (c - b'0') as u64)
+    capped(v * 10 + u64::from(c - b'0'))
 }
 
 // What a word says as a number.
 fn value(word: &[u8]) -> u64
     ensures { (result ≡ value word.now) × (result ≤ 1000000000000000001) }
 {
-    if word.len() == 0 {
+    if word.is_empty() {
         return MOST + 1;
     }
     let mut v: u64 = 0;
-    let mut i: usize = 0;
-    while i < word.len() {
-        v = longer(v, word[i]);
-        i += 1;
+    for c in word {
+        v = longer(v, *c);
     }
     v
 }
 
-// The least and the greatest number of a kind.
+// The least and the greatest number of a kind, which is a letter: `number` promises its answer for every one of them, so an enum
+// would take less.
 fn least(kind: u8) -> u64
     ensures { result ≡ least_of kind }
 {
-    if kind == b'z' {
-        return 1;
+    match kind {
+        b'z' => 1,
+        b'T' => 100,
+        _ => 0,
     }
-    if kind == b'T' {
-        return 100;
-    }
-    0
 }
 
 fn most(kind: u8) -> u64
     ensures { result ≡ most_of kind }
 {
-    if kind == b'z' {
-        return 16;
+    match kind {
+        b'z' => 16,
+        b'T' => 600000,
+        b'o' => 65535,
+        b't' => MOST,
+        _ => 255,
     }
-    if kind == b'T' {
-        return 600000;
-    }
-    if kind == b'o' {
-        return 65535;
-    }
-    if kind == b't' {
-        return MOST;
-    }
-    255
 }
 
-pub fn number(word: &[u8], kind: u8) -> Fit
+// The number that a word says, if it fits where it stands; else the same as an error, since `number_of` says it either way.
+#[tactic(auto, unfolding(crate::specs::Numbers::number_of))]
+pub fn number(word: &[u8], kind: u8) -> Result<u64, u64>
     ensures { result ≡ number_of word.now kind }
 {
     let value = value(word);
-    Fit {
-        right: between(value, least(kind), most(kind)),
-        value,
+    if !between(value, least(kind), most(kind)) {
+        return Err(value);
     }
+    Ok(value)
 }
 
 // Where a range begins and ends.
+#[tactic(auto, unfolding(crate::specs::Numbers::first_slot))]
 pub fn first_slot(range: &[u8]) -> u64
     ensures { result ≡ first_slot range.now }
 {
@@ -149,17 +113,18 @@ pub fn first_slot(range: &[u8]) -> u64
     value(&range[..end])
 }
 
+#[tactic(auto, unfolding(crate::specs::Numbers::last_slot))]
 pub fn last_slot(range: &[u8]) -> u64
     ensures { result ≡ last_slot range.now }
 {
     let dash = up_to(range, b'-');
     if dash < range.len() {
-        let from = dash + 1;
-        return value(&range[from..]);
+        return value(&range[dash + 1..]);
     }
     value(range)
 }
 
+#[tactic(auto, unfolding(crate::specs::Numbers::is_range))]
 pub fn is_range(word: &[u8]) -> bool
     ensures { result ≡ is_range word.now }
 {
@@ -170,8 +135,5 @@ pub fn is_range(word: &[u8]) -> bool
 pub fn kept(time: u64) -> u64
     ensures { result ≡ kept time }
 {
-    if time < MOST {
-        return time + 1;
-    }
-    MOST + 1
+    capped(time.saturating_add(1))
 }

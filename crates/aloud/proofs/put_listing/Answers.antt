@@ -1,30 +1,32 @@
--- `aloud::put_listing`: what is left to say is the ranges from place i on, and the slots from `next` on.
-use mathlib.Core.Path.{sym, ◌∙◌}
-use Prim.Native.Nat.{◌+◌, ◌<◌}
+-- `aloud::put_listing`: what is left to say is the ranges that are left, and the slots from `next` on.
+use mathlib.Core.Path.{◌≡◌, sym, ◌∙◌}
+use Prim.Native.Nat.{◌-◌}
 use native.Mathlib.Omega.{arith}
+use lib.ListN.{length, take, drop, length-drop}
+use lib.Seq.{take_all}
+use Rattle.lines.proofs.Texts.{puts_append}
 use Rattle.aloud.proofs.Listings.{next_range, no_range}
-use borrow.Author.Rules.{rules}
 use Rattle.aloud.proofs.put_listing.Goals as goal
 
-pub put_gap-end-requires : goal.put_gap-end-requires
-put_gap-end-requires c = (let first_fits : c.wide-first.result < 65536 = omega (arith, c.wide-first.ensures, c.shared_slice_known-in-loop-i-1.given c.loop-i.i) in first_fits)
-
-pub put_owned-end-requires : goal.put_owned-end-requires
-put_owned-end-requires c = (let last_fits : c.wide-last.result < 65536 = omega (arith, c.wide-last.ensures, c.shared_slice_known-in-loop-i-2-1.given (c.loop-i.i + 1)) in last_fits)
-
-pub overflow_add-next : goal.overflow_add-next
-overflow_add-next c = omega (arith, (let last_fits : c.wide-last.result < 65536 = omega (arith, c.wide-last.ensures, c.shared_slice_known-in-loop-i-2-1.given (c.loop-i.i + 1)) in last_fits))
-
-pub loop-i-preserved : goal.loop-i-preserved
-loop-i-preserved c = (
-  c.loop-i.invariant.0
-      ∙ next_range _ c.args.list.now c.loop-i.i _ _ c.loop-i-test.true
-      c.wide-first.ensures c.wide-last.ensures c.wide-owner.ensures
-      c.put_gap-end.ensures c.put_text-end.ensures c.put_owned-end.ensures,
-  search rules,
-  search rules,
-)
+pub loop-left-preserved : goal.loop-left-preserved
+loop-left-preserved c =
+    let l = c.loop-left.left.now in
+    let rest : take (length l - 3) (drop 3 l) ≡ drop 3 l = take_all (length l - 3) (drop 3 l) (omega (arith, length-drop 3 l)) in
+    c.loop-left.invariant
+    ∙ simp (
+      next_range c.args.margin.now l c.loop-left.next c.in-len3-up.len_at_least,
+      c.put_owned.ensures,
+      c.put_text.ensures,
+      c.put_gap.ensures,
+      c.from.ensures,
+      c.from-in-len3-up.ensures,
+      c.from-in-len3-up-2.ensures,
+      c.from-in-len3-up-3.ensures,
+      c.from-next.ensures,
+      puts_append,
+      rest,
+    )
 
 pub returns : goal.returns
 returns c =
-    no_range _ c.args.list.now c.loop-i.i _ _ c.loop-i-test.false c.put_gap.ensures ∙ sym c.loop-i.invariant.0
+    sym (c.loop-left.invariant ∙ simp (no_range c.args.margin.now c.loop-left.left.now c.loop-left.next c.in_default.len_below, c.put_gap-2.ensures, c.from-2.ensures))

@@ -1,32 +1,28 @@
--- `bitmaps::few` meets its contract: the word is that of the bytes from place i on, and at most seven of them have been read, so that one more has room.
+-- `bitmaps::few`: the word is that of the bytes from place i on, and at most seven of them have been read, so that one more has room.
 use mathlib.Core.Path.{◌≡◌, sym}
 use Prim.Native.Nat.{◌-◌}
 use native.Mathlib.Omega.{arith}
 use Rattle.bitmaps.proofs.Bytes.{word_ended, short_fits, word_back}
-use borrow.Author.Rules.{rules}
 use Rattle.bitmaps.proofs.few.Goals as goal
 
 pub loop-i-init : goal.loop-i-init
-loop-i-init c = (search rules, search rules, sym (word_ended c.args.bitmap.now _ 64 (omega arith)))
+loop-i-init c = record { from = omega arith; word = sym (word_ended c.args.bitmap.now _ 64 (omega arith)) }
 
 pub overflow_mul-word : goal.overflow_mul-word
 overflow_mul-word c = omega (arith, short_fits c.args.bitmap.now c.loop-i.i (omega arith))
 
-pub overflow_cast-word : goal.overflow_cast-word
-overflow_cast-word c = omega (arith, c.shared_slice_known-1.given (c.loop-i.i - 1))
-
 pub overflow_add-word : goal.overflow_add-word
-overflow_add-word c =
-    let l = c.loop-i in
-    omega (arith, short_fits c.args.bitmap.now l.i (omega arith), c.shared_slice_known-1.given (l.i - 1))
+overflow_add-word c = omega (arith, short_fits c.args.bitmap.now c.loop-i.i (omega arith), c.type_inv.bitmap (c.loop-i.i - 1))
 
 pub loop-i-preserved : goal.loop-i-preserved
 loop-i-preserved c =
     let l = c.loop-i in
-    (search rules, search rules, omega (arith, word_back c.args.bitmap.now l.i (omega arith) (omega arith) (c.shared_slice_known-1.given (l.i - 1)).fits))
+    record {
+      from = omega arith;
+      word = omega (arith, word_back c.args.bitmap.now l.i (omega arith) (omega arith) (c.type_inv.bitmap (l.i - 1)).fits);
+    }
 
 pub returns : goal.returns
 returns c =
-    let l = c.loop-i in
-    let e : l.i ≡ c.args.k = omega arith in
-    rw e at l.invariant.2
+    let e : c.loop-i.i ≡ c.args.k = omega arith in
+    rw e at c.loop-i.invariant.word

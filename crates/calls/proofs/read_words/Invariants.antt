@@ -1,11 +1,6 @@
--- `calls::read_words` ends, and each word lies within the text.
-use mathlib.Core.Path.{◌≡◌}
-use Prim.Native.Nat.{◌-◌, ◌≤◌}
-use lib.ListN.{length}
+-- `calls::read_words` counts no more words than there is room for.
+use Rattle.std.proofs.Common.{◌≤◌}
 use Rattle.calls.proofs.read_words.Given as goal
 
-abbrev pub invariant-loop-place : goal.invariant-loop-place
-invariant-loop-place l = (length l.numbers ≡ 64) × (l.end ≤ length l.text)
-
-abbrev pub decreases-loop-place : goal.decreases-loop-place
-decreases-loop-place l = 65 - l.place
+abbrev pub invariant-loop-word : goal.invariant-loop-word
+invariant-loop-word l = (goal.iterator-loop-word).can_next l.word-iterator × (goal.iterator-loop-word).is_finite l.word-iterator × (l.words ≤ 64)

@@ -1,6 +1,6 @@
 -- `engines::tell` meets its contract: the numbers are taken from the records, one by one.
 use mathlib.Core.Path.{◌≡◌, refl}
-use Prim.Native.Nat.{◌+◌, ◌-◌}
+use Prim.Native.Nat.{◌+◌}
 use native.Mathlib.Omega.{arith}
 use lib.ListN.{length}
 use Rattle.tables.specs.Sizes.{node_room}

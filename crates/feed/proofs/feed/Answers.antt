@@ -1,8 +1,5 @@
 -- `feed::feed`: the newline stands within the piece, and the line is what was kept, longer by the bytes before it.
-use mathlib.Core.Path.{sym, ◌∙◌}
-use Prim.Native.Nat.{◌<◌}
-use native.Mathlib.Omega.{arith}
-use lib.ListN.{length}
+use Rattle.std.proofs.Common.{sym, arith}
 use lib.Seq.{length-take-le}
 use Rattle.tables.proofs.Walks.{first_within}
 use Rattle.scraps.specs.Scraps.{takes}
@@ -10,16 +7,15 @@ use Rattle.feed.specs.Feed.{feeds}
 use Rattle.feed.proofs.feed.Goals as goal
 
 pub overflow_add-used : goal.overflow_add-used
-overflow_add-used c = omega (arith, (let ahead : c.in-At.k < length c.args.piece.now = omega (arith, first_within _ _ 0 _ (sym c.first_byte-found.ensures ∙ c.in-At.is)) in ahead))
+overflow_add-used c = omega (arith, first_within _ c.args.piece.now 0 _ (sym c.in-Some.ensures))
 
 pub slice_bounds-answer-end : goal.slice_bounds-answer-end
-slice_bounds-answer-end c = sym (length-take-le _ _ (omega (arith, (let ahead : c.in-At.k < length c.args.piece.now = omega (arith, first_within _ _ 0 _ (sym c.first_byte-found.ensures ∙ c.in-At.is)) in ahead))))
+slice_bounds-answer-end c = sym (length-take-le _ _ (omega (arith, first_within _ c.args.piece.now 0 _ (sym c.in-Some.ensures))))
 
-pub returns-in-Nothing : goal.returns-in-Nothing
+pub returns-in-None : goal.returns-in-None
 unfolding feeds takes
-returns-in-Nothing c = rw (← c.first_byte-found.ensures, c.in-Nothing.is, c.keep.ensures)
+returns-in-None c = rw (← c.in-None.ensures, c.keep.ensures)
 
-pub returns-in-At : goal.returns-in-At
+pub returns-in-Some : goal.returns-in-Some
 unfolding feeds takes
-returns-in-At c =
-    rw (← c.first_byte-found.ensures, c.in-At.is, ← c.answer-outcome.ensures, c.none-left.ensures)
+returns-in-Some c = rw (← c.in-Some.ensures, ← c.answer-outcome.ensures, c.none.ensures)

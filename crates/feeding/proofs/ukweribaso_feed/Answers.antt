@@ -1,5 +1,5 @@
 -- `feeding::ukweribaso_feed`: the answers so far, and what the bytes that are left come to, from any call on.
-use Prim.Native.Nat.{◌+◌, ◌-◌, ◌≤◌, ◌<◌}
+use Prim.Native.Nat.{◌+◌, ◌≤◌, ◌<◌}
 use native.Mathlib.Omega.{arith}
 use Rattle.feeding.proofs.Pieces.{at_first, moved, called, finished}
 use borrow.Author.Rules.{rules}

@@ -5,4 +5,4 @@ use Rattle.gateway.proofs.ask.Goals as goal
 
 pub returns : goal.returns
 unfolding asked
-returns c = c.take.ensures ∙ rw (c.route-redirect.ensures, c.part.ensures, c.with_asking-asking.ensures)
+returns c = c.take.ensures ∙ rw (c.route-redirect.ensures, c.part-key.ensures, c.with_asking-asking.ensures)

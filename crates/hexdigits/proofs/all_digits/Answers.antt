@@ -1,17 +1,9 @@
--- `hexdigits::all_digits` meets its contract.
-use mathlib.Core.Path.{refl}
-use Prim.Native.Nat.{◌-◌}
+-- `hexdigits::all_digits`: good says that every character so far is a digit.
 use Rattle.hexdigits.proofs.Digits.{one_more, looked_at_all}
-use borrow.Author.Rules.{rules}
 use Rattle.hexdigits.proofs.all_digits.Goals as goal
 
-pub loop-i-init : goal.loop-i-init
-loop-i-init c = (search rules, refl)
-
-pub loop-i-preserved : goal.loop-i-preserved
-loop-i-preserved c =
-    let l = c.loop-i in
-    (search rules, one_more _ _ l.good _ c.loop-i-test.true c.is_digit-good.ensures l.invariant.1)
+pub loop-c-preserved : goal.loop-c-preserved
+loop-c-preserved c = one_more _ _ c.loop-c.good _ c.loop-c-test.true c.is_digit-good.ensures c.loop-c.invariant
 
 pub returns : goal.returns
-returns c = looked_at_all _ _ _ c.loop-i-test.false c.loop-i.invariant.1
+returns c = looked_at_all _ _ _ c.loop-c-test.false c.loop-c.invariant

@@ -1,13 +1,9 @@
--- `hexdigits::all_digits` meets its contract.
+-- `hexdigits::all_digits`: good says that every character so far is a digit.
 use mathlib.Core.Path.{◌≡◌}
 use mathlib.Core.Bool.{◌&&◌}
-use Prim.Native.Nat.{◌-◌, ◌≤◌}
-use lib.ListN.{length, drop}
+use lib.ListN.{drop}
 use Rattle.hexdigits.specs.Hex.{all_digits}
 use Rattle.hexdigits.proofs.all_digits.Given as goal
 
-abbrev pub invariant-loop-i : goal.invariant-loop-i
-invariant-loop-i l = (l.i ≤ length l.line) × (all_digits l.line ≡ (l.good && all_digits (drop l.i l.line)))
-
-abbrev pub decreases-loop-i : goal.decreases-loop-i
-decreases-loop-i l = length l.line - l.i
+abbrev pub invariant-loop-c : goal.invariant-loop-c
+invariant-loop-c l = all_digits l.line ≡ (l.good && all_digits (drop l.c-index l.line))

@@ -5,11 +5,11 @@ use Rattle.lines.proofs.Moves.{ends_ahead}
 use Rattle.keyslots.proofs.answer_lines.Goals as goal
 
 pub overflow_add-from : goal.overflow_add-from
-overflow_add-from g c = omega (arith, (ends_ahead _ _ _ _ (sym c.in-At.ensures)).1)
+overflow_add-from g c = omega (arith, (ends_ahead _ _ _ _ (sym c.in-Some.ensures)).1)
 
 pub overflow_add-look : goal.overflow_add-look
-overflow_add-look g c = omega (arith, (ends_ahead _ _ _ _ (sym c.in-At.ensures)).1)
+overflow_add-look g c = omega (arith, (ends_ahead _ _ _ _ (sym c.in-Some.ensures)).1)
 
 pub loop-stop-smaller : goal.loop-stop-smaller
 loop-stop-smaller g c =
-    let next = ends_ahead _ _ _ _ (sym c.in-At.ensures) in omega (arith, next.0, next.1)
+    let next = ends_ahead _ _ _ _ (sym c.in-Some.ensures) in omega (arith, next.0, next.1)

@@ -1,27 +1,25 @@
 -- `lines::line_end`: what is found stands within the part that was searched.
-use mathlib.Core.Path.{sym, ◌∙◌}
-use Prim.Native.Nat.{◌-◌, ◌<◌}
+use mathlib.Core.Path.{sym, ap, ◌∙◌}
 use native.Mathlib.Omega.{arith}
-use Rattle.lines.proofs.Moves.{found_within}
-use borrow.Author.Tests.{lt-ltb, le-ltb}
-use Rattle.lines.specs.Lines.{line_end}
+use Rattle.lines.specs.Lines.{onwards}
+use Rattle.lines.proofs.Moves.{outside, within}
+use Rattle.tables.proofs.Walks.{first_within}
 use Rattle.lines.proofs.line_end.Goals as goal
 
-pub returns-then-end-buf : goal.returns-then-end-buf
-unfolding line_end
-returns-then-end-buf c = simp (lt-ltb _ _ c.if-end-buf.true)
+pub returns-in_err-get : goal.returns-in_err-get
+returns-in_err-get c = c.from_residual.ensures ∙ outside _ _ _ c.in_err-get.ensures.lookup.0
 
-pub returns-then-from-end : goal.returns-then-from-end
-unfolding line_end
-returns-then-from-end c = simp (le-ltb _ _ c.if-end-buf.false, lt-ltb _ _ c.if-from-end.true)
+pub returns-in_err-k : goal.returns-in_err-k
+returns-in_err-k c =
+    let l = c.in_ok-get.ensures.lookup.0 in
+    c.from_residual-in_err-k.ensures ∙ ap (onwards _) c.in_err-k.ensures ∙ within _ _ _ l.0 l.1 l.2
 
 pub overflow_add-result : goal.overflow_add-result
-overflow_add-result c = omega (arith, (let ahead : let at = c.args in c.in-At.k < at.end - at.from = found_within _ _ _ _ _ (sym c.first_byte-found.ensures ∙ c.in-At.is) in ahead))
+overflow_add-result c =
+    let l = c.in_ok-get.ensures.lookup.0 in
+    omega (arith, l.3, first_within _ _ 0 _ (sym c.in_ok-k.ensures))
 
-pub returns-in-Nothing : goal.returns-in-Nothing
-unfolding line_end
-returns-in-Nothing c = simp (le-ltb _ _ c.if-end-buf.false, le-ltb _ _ c.if-from-end.false, ← c.first_byte-found.ensures, c.in-Nothing.is)
-
-pub returns-in-At : goal.returns-in-At
-unfolding line_end
-returns-in-At c = simp (le-ltb _ _ c.if-end-buf.false, le-ltb _ _ c.if-from-end.false, ← c.first_byte-found.ensures, c.in-At.is)
+pub returns : goal.returns
+returns c =
+    let l = c.in_ok-get.ensures.lookup.0 in
+    ap (onwards _) c.in_ok-k.ensures ∙ within _ _ _ l.0 l.1 l.2

@@ -1,5 +1,4 @@
 -- `listing::write`: what is written, and the ranges from the slot on behind it.
-use Prim.Native.Nat.{◌-◌}
 use native.Mathlib.Omega.{arith}
 use Rattle.listing.proofs.Writing.{begun, done, on, still, past, room, put}
 use Rattle.listing.proofs.write.Goals as goal
@@ -17,21 +16,14 @@ put-requires c =
     let g = c.loop-s.invariant in
     (room g h e c.if-owner-size.true c.requires.1, omega arith, omega (arith, still g h e))
 
-pub loop-s-smaller-then-owner-size : goal.loop-s-smaller-then-owner-size
-loop-s-smaller-then-owner-size c =
-    let x = c in
-    omega (arith, on x.loop-s.invariant x.loop-s-test.true x.stretch_end-end.ensures)
-
-pub loop-s-preserved-then-owner-size : goal.loop-s-preserved-then-owner-size
-loop-s-preserved-then-owner-size c =
-    let x = c in
-    put x.loop-s.invariant x.loop-s-test.true x.stretch_end-end.ensures c.if-owner-size.true x.requires.1 _ c.put.ensures
-
 pub loop-s-smaller : goal.loop-s-smaller
 loop-s-smaller c = omega (arith, on c.loop-s.invariant c.loop-s-test.true c.stretch_end-end.ensures)
 
 pub loop-s-preserved : goal.loop-s-preserved
 loop-s-preserved c = past c.loop-s.invariant c.loop-s-test.true c.stretch_end-end.ensures c.if-owner-size.false
+
+pub loop-s-preserved-then-owner-size : goal.loop-s-preserved-then-owner-size
+loop-s-preserved-then-owner-size c = put c.loop-s.invariant c.loop-s-test.true c.stretch_end-end.ensures c.if-owner-size.true c.requires.1 _ c.put.ensures
 
 pub shape_of-list : goal.shape_of-list
 shape_of-list c = c.loop-s.invariant.long

@@ -1,18 +1,17 @@
--- `lookups::key_of` meets its contract: the loop copies the front.
-use Prim.Native.Nat.{ℕ, ◌-◌}
-use mathlib.Core.Path.{refl, subst}
-use mathlib.Core.List.{List}
-use native.Mathlib.Omega.{arith}
-use lib.ListN.{length-replicate}
-use Rattle.lookups.proofs.Keys.{Copied, front_fits, one_more, carried}
+-- `lookups::key_of` meets its contract: the front is copied.
+use Rattle.std.proofs.Common.{sym, refl}
+use lib.Seq.{length-take-le}
+use Rattle.lookups.proofs.Keys.{front_fits, carried}
 use Rattle.lookups.proofs.key_of.Goals as goal
 
-pub loop-i-init : goal.loop-i-init
-loop-i-init c = record { same = refl; wide = length-replicate {A = ℕ} 512 0; some = omega arith; fits = rw c.part-front.ensures (front_fits c.args.text.now) }
+pub slice_bounds-bytes-end : goal.slice_bounds-bytes-end
+slice_bounds-bytes-end c = front_fits c.args.text.now _ c.part-front.ensures
 
-pub loop-i-preserved : goal.loop-i-preserved
-loop-i-preserved c = one_more c.loop-i.invariant c.loop-i-test.true
+pub slice_bounds-copy_from_slice-end : goal.slice_bounds-copy_from_slice-end
+slice_bounds-copy_from_slice-end c = sym (length-take-le _ _ (front_fits c.args.text.now _ c.part-front.ensures))
+
+pub copy_from_slice-requires : goal.copy_from_slice-requires
+copy_from_slice-requires c = length-take-le _ _ (front_fits c.args.text.now _ c.part-front.ensures)
 
 pub returns : goal.returns
-returns c = let l = c.loop-i in let p = c.part-front.ensures in
-    (carried c.args.text.now (subst (λ (f : List ℕ). Copied f l.bytes l.i) p l.invariant) (rw p at c.loop-i-test.false), refl)
+returns c = (rw (c.copy_from_slice.ensures.after, c.part-front.ensures) (carried c.args.text.now _ refl), refl)

@@ -1,24 +1,20 @@
--- `marks::clear_mark` meets its contract: 7, and then the checks of a clearing.
-use mathlib.Core.Path.{◌≡◌, sym, ap, ◌∙◌}
-use mathlib.Core.Bool.{true}
-use borrow.Author.Tests.{not-false}
-use Rattle.tables.specs.Checks.{checked}
+-- `marks::clear_mark` meets its contract.
+use mathlib.Core.Path.{sym, ap, ◌∙◌}
 use Rattle.answers.specs.declared.Answer.TheVariants.{Done}
-use Rattle.answers.proofs.Checks.{on_check, in_two, unrefused}
+use Rattle.answers.proofs.Checks.{on_check, by_check}
 use Rattle.state.specs.Outcomes.{answered}
-use Rattle.entry.specs.Entry.{entry_checks}
-use Rattle.soundness.proofs.Facts.{few_marks}
-use Rattle.marks.specs.MarkChanges.{unmark_checks, unmarking, clear_mark}
+use Rattle.state.specs.declared.Node.{Node}
+use Rattle.marks.specs.MarkChanges.{clear_checks, unmarking, clear_mark}
 use Rattle.marks.proofs.clear_mark.Goals as goal
 
-pub unmark_slot-requires : goal.unmark_slot-requires
-unmark_slot-requires c = let n = c.args.node in
-    few_marks n (not-false _ (unrefused 7 (entry_checks true n) (sym c.checks-check.ensures ∙ c.in-Passed.is)))
-
-pub returns-in-Refused : goal.returns-in-Refused
+pub returns-in-Err : goal.returns-in-Err
 unfolding clear_mark
-returns-in-Refused c = sym ((let told : clear_mark c.args.node c.args.slot ≡ on_check (answered c.args.node) (checked (answered c.args.node) (unmark_checks c.args.node c.args.slot) (answered (unmarking c.args.slot c.args.node) Done)) c.checks-check.result = in_two (answered c.args.node) (entry_checks true c.args.node) (unmark_checks c.args.node c.args.slot) _ ∙ ap (on_check (answered c.args.node) _) (sym c.checks-check.ensures) in told) ∙ rw c.in-Refused.is)
+returns-in-Err c =
+    let n = c.args.node in
+    sym (by_check (answered n) (clear_checks n c.args.slot) (answered (unmarking c.args.slot n) Done) ∙ ap (on_check (answered n) _) (sym c.clear_check-check.ensures ∙ c.in-Err.is))
 
-pub returns-in-Passed : goal.returns-in-Passed
+pub returns-in-Ok : goal.returns-in-Ok
 unfolding clear_mark
-returns-in-Passed c = c.unmark_slot.ensures ∙ sym ((let told : clear_mark c.args.node c.args.slot ≡ on_check (answered c.args.node) (checked (answered c.args.node) (unmark_checks c.args.node c.args.slot) (answered (unmarking c.args.slot c.args.node) Done)) c.checks-check.result = in_two (answered c.args.node) (entry_checks true c.args.node) (unmark_checks c.args.node c.args.slot) _ ∙ ap (on_check (answered c.args.node) _) (sym c.checks-check.ensures) in told) ∙ rw c.in-Passed.is)
+returns-in-Ok c =
+    let n = c.args.node in
+    sym (by_check (answered n) (clear_checks n c.args.slot) (answered (unmarking c.args.slot n) Done) ∙ ap (on_check (answered n) _) (sym c.clear_check-check.ensures ∙ c.in-Ok.is) ∙ sym (ap (λ (x : Node). answered x Done) c.without-rest.ensures))

@@ -1,12 +1,9 @@
 -- `marks::place` meets its contract.
 use mathlib.Core.Path.{◌≡◌}
-use Prim.Native.Nat.{◌+◌, ◌-◌, ◌≤◌}
-use lib.ListN.{take, drop}
+use Prim.Native.Nat.{◌+◌}
+use lib.ListN.{drop}
 use Rattle.marks.specs.Marks.{place_of}
 use Rattle.marks.proofs.place.Given as goal
 
 abbrev pub invariant-loop-i : goal.invariant-loop-i
-invariant-loop-i l = (l.i ≤ l.marked) × (place_of l.slot (take l.marked l.marks) ≡ l.i + place_of l.slot (drop l.i (take l.marked l.marks)))
-
-abbrev pub decreases-loop-i : goal.decreases-loop-i
-decreases-loop-i l = l.marked - l.i
+invariant-loop-i l = place_of l.slot l.marks ≡ l.i + place_of l.slot (drop l.i l.marks)

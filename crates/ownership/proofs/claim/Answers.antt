@@ -1,6 +1,5 @@
 -- `ownership::claim` meets its contract: each turn of the inner loop is a claimed slot by its fate, and between two turns slots stay.
 use mathlib.Core.Path.{refl, sym, ◌∙◌}
-use Prim.Native.Nat.{◌-◌}
 use native.Mathlib.Omega.{arith}
 use lib.Count.{trailing_le}
 use Rattle.bitmaps.proofs.Scan.{rest_less}
@@ -13,7 +12,7 @@ pub loop-from-init : goal.loop-from-init
 loop-from-init c = (refl, begin)
 
 pub pending-word-requires : goal.pending-word-requires
-pending-word-requires c = (c.loop-from-test.true, c.loop-from.invariant.0)
+pending-word-requires c = (omega (arith, c.loop-from.invariant.1.long), c.loop-from.invariant.0)
 
 pub loop-word-init : goal.loop-word-init
 loop-word-init c = starts_reading (onwards c.loop-from.invariant.1) c.pending-word.ensures
@@ -64,7 +63,7 @@ pub loop-word-smaller-in-Stale : goal.loop-word-smaller-in-Stale
 loop-word-smaller-in-Stale c = rest_less c.loop-word.word c.loop-word-test.true
 
 pub loop-word-preserved-in-Stale : goal.loop-word-preserved-in-Stale
-loop-word-preserved-in-Stale c = let i = c.loop-word.invariant in let f = c.loop-word-test.true in reads_on carries i f (tells i.at (in_slots i f) (is_claimed_lem i.unread f) c.lowest-stale.ensures (sym c.fate_of.ensures ∙ c.in-Stale.is))
+loop-word-preserved-in-Stale c = let i = c.loop-word.invariant in let f = c.loop-word-test.true in reads_on carries i f (tells i.at (in_slots i f) (is_claimed_lem i.unread f) c.or-stale.ensures (sym c.fate_of.ensures ∙ c.in-Stale.is))
 
 pub loop-word-smaller : goal.loop-word-smaller
 loop-word-smaller c = rest_less c.loop-word.word c.loop-word-test.true
@@ -79,4 +78,10 @@ pub shape_of-slots : goal.shape_of-slots
 shape_of-slots c = c.loop-from.invariant.1.long
 
 pub returns : goal.returns
-returns c = finish c.loop-from.invariant.1 c.loop-from-test.false
+returns c = finish c.loop-from.invariant.1 (omega (arith, c.loop-from.invariant.1.long))
+
+-- at the last 64 there is no next place
+pub returns-2 : goal.returns-2
+returns-2 c =
+    let i = joined c.loop-from.invariant.1 (closes c.loop-word.invariant c.loop-word-test.false) in
+    finish i (omega (arith, i.long))

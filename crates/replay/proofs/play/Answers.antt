@@ -13,5 +13,5 @@ slice_bounds-play_lines-end-2 g c = sym (length-replicate {A = ℕ} 16384 65535)
 pub slice_bounds-play_lines-end-3 : goal.slice_bounds-play_lines-end-3
 slice_bounds-play_lines-end-3 g c = sym (length-replicate {A = ℕ} 16384 0)
 
-pub slice_bounds-play_lines-end-4 : goal.slice_bounds-play_lines-end-4
-slice_bounds-play_lines-end-4 g c = sym (length-replicate {A = ℕ} 1114112 0)
+pub slice_bounds-out-end : goal.slice_bounds-out-end
+slice_bounds-out-end g c = sym (length-replicate {A = ℕ} 1114112 0)

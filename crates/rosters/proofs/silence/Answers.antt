@@ -1,27 +1,26 @@
 -- `rosters::silence` meets its contract: so many nodes below k + 2 are silent.
 use mathlib.Core.Path.{◌≡◌, refl, sym, ap, ◌∙◌}
-use Prim.Native.Nat.{ℕ, ◌-◌}
+use Prim.Native.Nat.{ℕ}
 use native.Mathlib.Omega.{arith}
 use Rattle.tables.specs.Below.{in_turn}
 use Rattle.tables.proofs.Below.{in_turn_more}
 use Rattle.state.specs.Changes.{with_records}
 use Rattle.rosters.specs.Rosters.{silenced_next, silenced, room}
-use borrow.Author.Rules.{rules}
 use Rattle.rosters.proofs.silence.Goals as goal
 
 pub loop-k-init : goal.loop-k-init
 unfolding in_turn
-loop-k-init c = (search rules, search rules, refl)
+loop-k-init c = refl
 
 pub loop-k-preserved : goal.loop-k-preserved
 unfolding with_records
 loop-k-preserved c =
     let l = c.loop-k in
-    (search rules, search rules, rw c.silent.ensures (ap (silenced_next l.k) l.invariant.2 ∙ sym (in_turn_more silenced_next l.k _)))
+    rw (c.silent.ensures, c.from-at.ensures) (ap (silenced_next l.k) l.invariant ∙ sym (in_turn_more silenced_next l.k _))
 
 pub returns : goal.returns
 unfolding silenced
 returns c =
     let l = c.loop-k in
-    let e : l.k ≡ room c.args.count = omega (arith, c.room-end.ensures.0) in
-    l.invariant.2 ∙ ap (λ (k : ℕ). in_turn silenced_next k c.args.node) e
+    let e : l.k ≡ room c.args.count = omega arith in
+    l.invariant ∙ ap (λ (k : ℕ). in_turn silenced_next k c.args.node) e

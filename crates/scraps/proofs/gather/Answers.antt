@@ -9,15 +9,15 @@ use Rattle.scraps.specs.Scraps.{takes}
 use Rattle.scraps.proofs.gather.Goals as goal
 
 pub overflow_add-used : goal.overflow_add-used
-overflow_add-used c = omega (arith, (let ahead : c.in-At.k < length c.args.piece.now = omega (arith, first_within _ _ 0 _ (sym c.first_byte-found.ensures ∙ c.in-At.is)) in ahead))
+overflow_add-used c = omega (arith, (let ahead : c.in-Some.k < length c.args.piece.now = omega (arith, first_within _ _ 0 _ (sym c.first_byte.ensures ∙ c.in-Some.is)) in ahead))
 
 pub slice_bounds-keep-end : goal.slice_bounds-keep-end
-slice_bounds-keep-end c = sym (length-take-le _ _ (omega (arith, (let ahead : c.in-At.k < length c.args.piece.now = omega (arith, first_within _ _ 0 _ (sym c.first_byte-found.ensures ∙ c.in-At.is)) in ahead))))
+slice_bounds-keep-end c = sym (length-take-le _ _ (omega (arith, (let ahead : c.in-Some.k < length c.args.piece.now = omega (arith, first_within _ _ 0 _ (sym c.first_byte.ensures ∙ c.in-Some.is)) in ahead))))
 
-pub returns-in-Nothing : goal.returns-in-Nothing
+pub returns-in-None : goal.returns-in-None
 unfolding takes
-returns-in-Nothing c = rw (← c.first_byte-found.ensures, c.in-Nothing.is, c.keep.ensures)
+returns-in-None c = rw (← c.first_byte.ensures, c.in-None.is, c.keep.ensures)
 
-pub returns-in-At : goal.returns-in-At
+pub returns-in-Some : goal.returns-in-Some
 unfolding takes
-returns-in-At c = rw (← c.first_byte-found.ensures, c.in-At.is, c.keep-in-At.ensures)
+returns-in-Some c = rw (← c.first_byte.ensures, c.in-Some.is, c.keep-in-Some.ensures)

@@ -1,10 +1,6 @@
--- `slotmap::place_behind` ends: each turn looks at the next byte, and a line starts at most there.
-use Prim.Native.Nat.{◌+◌, ◌-◌, ◌≤◌}
-use lib.ListN.{length}
+-- `slotmap::place_behind`: a line and a character for each byte at most.
+use Prim.Native.Nat.{◌+◌, ◌≤◌}
 use Rattle.slotmap.proofs.place_behind.Given as goal
 
-abbrev pub invariant-loop-i : goal.invariant-loop-i
-invariant-loop-i l = (l.line ≤ l.i + 1) × (l.start ≤ l.i) × (l.i ≤ length l.bytes)
-
-abbrev pub decreases-loop-i : goal.decreases-loop-i
-decreases-loop-i l = length l.bytes - l.i
+abbrev pub invariant-loop-byte : goal.invariant-loop-byte
+invariant-loop-byte l = (l.line ≤ l.byte-index + 1) × (l.character ≤ l.byte-index + 1)

@@ -4,8 +4,8 @@ use mathlib.Core.List.{List, []}
 use Prim.Native.Nat.{ℕ, ◌*◌}
 use lib.ListN.{length, take, drop}
 use lib.Seq.{take_at}
-use Rattle.lines.specs.Texts.{puts}
-use Rattle.lines.proofs.Texts.{then}
+use Rattle.lines.specs.Writers.{extended}
+use Rattle.lines.proofs.Writers.{then}
 use Rattle.listing.specs.Listing.{Range, listing, flat, laid}
 use Rattle.listing.proofs.Laws.{three_a_range}
 use Rattle.aloud.specs.Aloud.{spoken, ranges_of}
@@ -23,6 +23,5 @@ pub returns : goal.returns
 unfolding in_words
 returns c =
     let a = c.args in
-    let rs = listing a.size a.slots.now in
-    let e = ap ranges_of c.front.ensures ∙ read_back rs a.list.now _ _ c.list_whole-count.ensures.0 c.list_whole-count.ensures.1 in
-    then _ _ _ (c.put_listing-end.ensures ∙ ap (λ (qs : List Range). puts (record { bytes = a.out.now; end = 0 }) (spoken [] qs)) e) c.put_totals.ensures
+    let e = ap ranges_of c.front.ensures ∙ read_back (listing a.size a.slots.now) a.list.now _ _ c.list_whole-count.ensures.0 c.list_whole-count.ensures.1 in
+    then _ _ _ (c.put_listing.ensures ∙ ap (λ (qs : List Range). extended a.out.now (spoken [] qs)) e) c.put_totals.ensures

@@ -1,24 +1,22 @@
 -- `slotmap::size_of`: the number that the word says, held against the roster's limits.
-use mathlib.Core.Path.{◌≡◌, sym, ap, ◌∙◌}
-use mathlib.Core.List.{[], ◌∷◌}
-use native.Mathlib.Omega.{arith}
-use lib.Dec.{leb}
-use borrow.Author.Tests.{leb-true}
-use Rattle.tables.proofs.Checks.{part}
-use Rattle.words.specs.Numbers.{number_of, value}
-use Rattle.words.specs.declared.Fit.{Fit}
+use mathlib.Core.Path.{ap, ◌∙◌}
+use Prim.Native.Nat.{ℕ}
+use Rattle.std.specs.Prelude.{Result}
+use Rattle.std.specs.Result.{result_ok}
+use Rattle.slotmap.proofs.Sizes.{says, no_size}
 use Rattle.slotmap.proofs.size_of.Goals as goal
 
-pub overflow_cast-result : goal.overflow_cast-result
-overflow_cast-result c =
-    let v = c.number-fit.result.value in
-    let h = leb-true v 64 (part 1 (leb 1 v ∷ leb v 64 ∷ []) (sym c.between.ensures ∙ c.if-between.true)) in
-    record { fits = omega (arith, h) }
+pub returns-in_err-size : goal.returns-in_err-size
+returns-in_err-size c =
+    let e = c.in_err-size.ensures.value ∙ ap (λ (r : Result ℕ ℕ). result_ok r) c.number.ensures in
+    rw (c.from_residual.ensures, no_size _ e)
 
-pub returns-then-between : goal.returns-then-between
-unfolding number_of
-returns-then-between c = rw (← (let says : c.number-fit.result.value ≡ value c.args.word.now = ap (λ (f : Fit). f.value) c.number-fit.ensures in says), ← c.between.ensures, c.if-between.true)
+pub returns-then-not-between : goal.returns-then-not-between
+returns-then-not-between c =
+    let e = says _ _ (c.in_ok-size.ensures.value ∙ ap (λ (r : Result ℕ ℕ). result_ok r) c.number.ensures) in
+    rw (← e, ← c.if-not-between.ensures)
 
 pub returns : goal.returns
-unfolding number_of
-returns c = rw (← (let says : c.number-fit.result.value ≡ value c.args.word.now = ap (λ (f : Fit). f.value) c.number-fit.ensures in says), ← c.between.ensures, c.if-between.false)
+returns c =
+    let e = says _ _ (c.in_ok-size.ensures.value ∙ ap (λ (r : Result ℕ ℕ). result_ok r) c.number.ensures) in
+    rw (← e, ← c.if-not-between.ensures)

@@ -4,5 +4,5 @@ use Prim.Native.Nat.{ℕ}
 use lib.ListN.{length-replicate}
 use Rattle.slotmap.proofs.tell.Goals as goal
 
-pub slice_bounds-print-end : goal.slice_bounds-print-end
-slice_bounds-print-end g c = sym (length-replicate {A = ℕ} 1048576 0)
+pub slice_bounds-out-end : goal.slice_bounds-out-end
+slice_bounds-out-end g c = sym (length-replicate {A = ℕ} 1048576 0)

@@ -1,11 +1,7 @@
 -- `state::masters` meets its contract: the masters among the records passed.
-use Prim.Native.Nat.{◌-◌, ◌≤◌}
 use Rattle.nodesets.proofs.Gathered.{Gathered}
 use Rattle.state.specs.Node.{master_at}
 use Rattle.state.proofs.masters.Given as goal
 
 abbrev pub invariant-loop-k : goal.invariant-loop-k
-invariant-loop-k l = (l.k ≤ l.end) × Gathered (master_at l.node) l.k l.set
-
-abbrev pub decreases-loop-k : goal.decreases-loop-k
-decreases-loop-k l = l.end - l.k
+invariant-loop-k l = Gathered (master_at l.node) l.k l.set

@@ -1,25 +1,30 @@
--- `tables::occurs`: in the stretches passed it does not stand, so the search of the rest is the search of the whole.
-use mathlib.Core.Path.{refl, sym, ◌∙◌}
-use Prim.Native.Nat.{◌-◌}
-use native.Mathlib.Omega.{arith}
-use Rattle.tables.proofs.Walks.{occurs_there, occurs_behind, occurs_onwards}
+-- `tables::occurs`: the number stands in a stretch, or in the rest behind them.
+use mathlib.Core.Path.{◌≡◌, ap, ◌∙◌}
+use mathlib.Core.List.{List}
+use Prim.Native.Nat.{ℕ, ◌/◌}
+use lib.ListN.{length}
 use borrow.Author.Rules.{rules}
+use borrow.Author.Tests.{tests}
+use Rattle.std.specs.List.{list_any}
+use Rattle.std.specs.Simd.{first_chunks}
+use Rattle.std.proofs.lemmas.Iterator.{YieldsList-from_slice}
+use Rattle.std.proofs.lemmas.Iterator.Search.{any_from_yields_List}
+use Rattle.tables.specs.Lists.{occurs}
+use Rattle.tables.proofs.Walks.{occurs_chunks}
 use Rattle.tables.proofs.occurs.Goals as goal
 
-pub loop-from-init : goal.loop-from-init
-loop-from-init c = (search rules, refl)
+pub returns-then-any : goal.returns-then-any
+returns-then-any c =
+    let e = c.args.entries.now in
+    let v = c.args.number in
+    let stands : c.any.result ≡ list_any (λ stretch. occurs stretch v) (first_chunks 32 (length e / 32) e) =
+    any_from_yields_List (λ stretch. occurs stretch v) _ _ c.any.result c.any.ensures.ran (YieldsList-from_slice (first_chunks 32 (length e / 32) e) cc) (λ x b q k. search (rules, tests)) in
+    c.if-any.true ∙ rw (← stands, c.if-any.true) at (occurs_chunks v 32 (length e / 32) e)
 
-pub returns-then-stands_in : goal.returns-then-stands_in
-returns-then-stands_in c =
-    let l = c.loop-from in
-    sym (l.invariant.1 ∙ occurs_there _ _ l.from _ (omega arith) (sym c.stands_in.ensures ∙ c.if-stands_in.true))
-
-pub loop-from-preserved : goal.loop-from-preserved
-loop-from-preserved c =
-    let l = c.loop-from in
-    (search rules, l.invariant.1 ∙ occurs_behind _ _ l.from _ (omega arith) (sym c.stands_in.ensures ∙ c.if-stands_in.false))
-
-pub returns : goal.returns
-returns c =
-    let l = c.loop-from in
-    c.stands_in-2.ensures ∙ occurs_onwards _ _ l.from ∙ sym l.invariant.1
+pub returns-else-any : goal.returns-else-any
+returns-else-any c =
+    let e = c.args.entries.now in
+    let v = c.args.number in
+    let stands : c.any.result ≡ list_any (λ stretch. occurs stretch v) (first_chunks 32 (length e / 32) e) =
+    any_from_yields_List (λ stretch. occurs stretch v) _ _ c.any.result c.any.ensures.ran (YieldsList-from_slice (first_chunks 32 (length e / 32) e) cc) (λ x b q k. search (rules, tests)) in
+    c.stands_in.ensures ∙ ap (λ (xs : List ℕ). occurs xs v) c.as_chunks.ensures.back ∙ rw (← stands, c.if-any.false) at (occurs_chunks v 32 (length e / 32) e)

@@ -2,7 +2,6 @@
 use borrow.Author.Tests.{eq-eqb, ne_eqb}
 use Rattle.lines.specs.Texts.{ascii}
 use Rattle.totals.specs.Totals.{remainder}
-use borrow.Author.Rules.{rules}
 use Rattle.totals.proofs.put_remainder.Goals as goal
 
 pub returns-then-left-eq0 : goal.returns-then-left-eq0

@@ -2,7 +2,6 @@
 use borrow.Author.Tests.{eq-eqb, ne_eqb}
 use Rattle.lines.specs.Texts.{puts, ascii}
 use Rattle.totals.specs.Totals.{share}
-use borrow.Author.Rules.{rules}
 use Rattle.totals.proofs.put_share.Goals as goal
 
 pub returns-then-count-eq0 : goal.returns-then-count-eq0

@@ -1,20 +1,14 @@
 -- `totals::put_shares`: the shares of the nodes below k are written.
-use mathlib.Core.Path.{◌≡◌}
-use Prim.Native.Nat.{◌-◌, ◌≤◌}
-use native.Mathlib.Omega.{arith}
-use lib.ListN.{length}
-use Rattle.lines.specs.Texts.{puts}
+use native.Mathlib.Numerals.{add-one}
+use mathlib.Core.Path.{sym}
+use Rattle.lines.proofs.Writers.{then, extended_none}
 use Rattle.totals.specs.Totals.{shares}
-use Rattle.totals.proofs.Shares.{no_share, next_share, all_shares}
-use borrow.Author.Rules.{rules}
 use Rattle.totals.proofs.put_shares.Goals as goal
 
 pub loop-k-init : goal.loop-k-init
-loop-k-init c = (no_share _ 0 _, search rules, search rules)
+unfolding shares
+loop-k-init c = sym (extended_none _)
 
 pub loop-k-preserved : goal.loop-k-preserved
-loop-k-preserved c =
-    (next_share _ _ _ c.loop-k.invariant.0 c.owned-count.ensures c.put_share-end.ensures, search rules, search rules)
-
-pub returns : goal.returns
-returns c = all_shares _ _ _ (omega arith) c.loop-k.invariant.0
+unfolding shares
+loop-k-preserved c = rw (add-one c.loop-k.k, shares, ← c.owned.ensures) (then _ _ _ c.loop-k.invariant (rw c.from.ensures at c.put_share.ensures))

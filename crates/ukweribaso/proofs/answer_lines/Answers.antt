@@ -8,24 +8,23 @@ use Rattle.ukweribaso.proofs.answer_lines.Goals as goal
 
 pub overflow_add-from : goal.overflow_add-from
 overflow_add-from g c =
-    let used = uses _ c.args.piece.now c.loop-answer.from c.feed-fed.ensures _ c.in-Answered.is in
+    let used = uses _ c.args.piece.now c.loop-answer.from c.feed-fed.ensures _ c.in-Some.is in
     omega (arith, used.1, c.loop-answer.invariant)
 
 pub loop-answer-smaller : goal.loop-answer-smaller
 loop-answer-smaller g c =
-    let used = uses _ c.args.piece.now c.loop-answer.from c.feed-fed.ensures _ c.in-Answered.is in
+    let used = uses _ c.args.piece.now c.loop-answer.from c.feed-fed.ensures _ c.in-Some.is in
     omega (arith, used.0, used.1)
 
 pub loop-answer-preserved : goal.loop-answer-preserved
 loop-answer-preserved g c =
-    let used = uses _ c.args.piece.now c.loop-answer.from c.feed-fed.ensures _ c.in-Answered.is in (
+    let used = uses _ c.args.piece.now c.loop-answer.from c.feed-fed.ensures _ c.in-Some.is in (
       search rules,
       search rules,
-      search rules,
-      omega (arith, used.1, c.loop-answer.invariant.3),
-      c.loop-answer.invariant.4 ∙ answered _ c.args.piece.now c.loop-answer.from c.feed-fed.ensures _ c.in-Answered.is _ refl,
+      omega (arith, used.1, c.loop-answer.invariant.2),
+      c.loop-answer.invariant.3 ∙ answered _ c.args.piece.now c.loop-answer.from c.feed-fed.ensures _ c.in-Some.is _ refl,
     )
 
 pub returns-in_default : goal.returns-in_default
 returns-in_default g c =
-    sym (c.loop-answer.invariant.4 ∙ finished _ c.args.piece.now c.loop-answer.from c.feed-fed.ensures c.in_default.is)
+    sym (c.loop-answer.invariant.3 ∙ finished _ c.args.piece.now c.loop-answer.from c.feed-fed.ensures c.in_default.is)

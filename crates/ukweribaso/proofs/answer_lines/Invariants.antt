@@ -9,7 +9,7 @@ use Rattle.ukweribaso.proofs.answer_lines.Given as goal
 
 abbrev pub invariant-loop-answer : goal.invariant-loop-answer
 invariant-loop-answer g l =
-    (length l.slots ≡ length l.initial.slots) × (length l.reports ≡ length l.initial.reports) × (length l.out ≡ length l.initial.out) × (l.from ≤ length l.piece)
+    (length l.slots ≡ length l.initial.slots) × (length l.reports ≡ length l.initial.reports) × (l.from ≤ length l.piece)
     × ((stream (station l.initial.here l.initial.slots l.initial.reports l.initial.rest) l.piece).after ≡ (stream (station l.here l.slots l.reports l.rest) (drop l.from l.piece)).after)
 
 abbrev pub decreases-loop-answer : goal.decreases-loop-answer

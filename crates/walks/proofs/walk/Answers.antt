@@ -1,15 +1,17 @@
 -- `walks::walk`: what is left to walk, after so many questions, is what there was to walk.
-use mathlib.Core.Path.{sym, ◌∙◌}
+use Rattle.std.proofs.Common.{◌≡◌, suc, sym, ◌∙◌, ◌+◌, ◌-◌, arith}
 use Rattle.walks.proofs.Walks.{ended, one_question, no_question}
-use borrow.Author.Rules.{rules}
 use Rattle.walks.proofs.walk.Goals as goal
 
-pub returns-in-Ended : goal.returns-in-Ended
-returns-in-Ended c = sym (sym c.loop-left.invariant.0 ∙ ended _ _ _ _ _ _ _ _ c.in-Ended.is)
+pub returns-in_default : goal.returns-in_default
+returns-in_default c = sym (ended _ _ _ _ _ _ _ _ c.in_default.is) ∙ c.loop-asked.invariant
 
-pub loop-left-preserved : goal.loop-left-preserved
-loop-left-preserved c =
-    (sym (one_question _ _ _ _ _ _ _ _ _ c.loop-left-test.true c.in-Asking.is (c.ask-next.ensures ∙ rw (c.table-table.ensures, c.is_named-present.ensures))) ∙ c.loop-left.invariant.0, search rules, search rules, search rules, search rules)
+pub loop-asked-preserved : goal.loop-asked-preserved
+loop-asked-preserved c =
+    let n = c.loop-asked._asked in
+    let one : 5 - n ≡ suc (5 - (n + 1)) = omega arith in
+    let reply = c.ask-lookup.ensures ∙ rw (c.table-table.ensures, c.is_named-present.ensures, c.from.ensures) in
+    sym (one_question _ _ _ _ (5 - n) (5 - (n + 1)) _ _ _ _ one c.in-Asking.is reply) ∙ c.loop-asked.invariant
 
 pub returns : goal.returns
-returns c = sym (sym c.loop-left.invariant.0 ∙ no_question _ _ _ _ _ _ _ c.loop-left-test.false)
+returns c = sym (no_question _ _ _ _ _ _ _ (omega arith)) ∙ c.loop-asked.invariant

@@ -14,4 +14,4 @@ pub returns-in-Master : goal.returns-in-Master
 returns-in-Master c = let a = c.args in rw c.in-Master.is (none_handed_over (λ owner. false) a.me a.slots.now (λ owner. refl))
 
 pub returns-in-Replica : goal.returns-in-Replica
-returns-in-Replica c = rw (c.in-Replica.is, lt-ltb _ _ c.if-config-epoch.false) c.pass_on.ensures
+returns-in-Replica c = rw (c.in-Replica.is, ← c.from.ensures, lt-ltb _ _ c.if-config-epoch.false) c.pass_on.ensures

@@ -1,8 +1,0 @@
--- `plain::lowest` meets its contract.
-use Rattle.plain.proofs.lowest.Goals as goal
-
-pub returns-in-Nothing : goal.returns-in-Nothing
-returns-in-Nothing c = rw c.in-Nothing.is
-
-pub returns-in-At : goal.returns-in-At
-returns-in-At c = rw c.in-At.is

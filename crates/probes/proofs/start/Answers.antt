@@ -1,8 +1,0 @@
--- `probes::start` meets its contract.
-use Rattle.probes.proofs.start.Goals as goal
-
-pub returns-in-Never : goal.returns-in-Never
-returns-in-Never c = simp c.in-Never.is
-
-pub returns-in-At : goal.returns-in-At
-returns-in-At c = simp c.in-At.is
