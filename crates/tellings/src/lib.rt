@@ -1,6 +1,8 @@
 // The lines that `replay` prints: docs/REPLAY.md, "What is printed".
 #![tactic(auto)]
 
+ghost use Rattle.lines.specs.Writers.{SameRoom};
+
 use answers::{Answer, Tally};
 use lines::Writer;
 use nodesets::NodeSet;
@@ -8,7 +10,10 @@ use routing::Redirect;
 use state::{Election, Role};
 
 // A text, with the next number for each %.
-pub fn put(out: &mut Writer, text: &str, numbers: &[u64]) {
+#[tactic(auto, using(lines::proofs::Writers::same_room))]
+pub fn put(out: &mut Writer, text: &str, numbers: &[u64])
+    ensures { SameRoom out.old out.new }
+{
     for (i, part) in text.split('%').enumerate() {
         out.put_text(part.as_bytes());
         if let Some(number) = numbers.get(i) {
@@ -49,7 +54,9 @@ pub struct Told {
     pub after: [u8; tables::NODES],
 }
 
-pub fn put_told(out: &mut Writer, told: Told) {
+pub fn put_told(out: &mut Writer, told: Told)
+    ensures { SameRoom out.old out.new }
+{
     match told.said {
         Said::Nothing => {}
         Said::Answered(answer) => {
@@ -73,12 +80,16 @@ pub fn put_told(out: &mut Writer, told: Told) {
     }
 }
 
-fn put_head(out: &mut Writer, told: Told) {
+fn put_head(out: &mut Writer, told: Told)
+    ensures { SameRoom out.old out.new }
+{
     put(out, "% node %: ", &[told.line, told.node]);
 }
 
 // The rest of a call's line, and the flags below it.
-fn put_below(out: &mut Writer, told: Told) {
+fn put_below(out: &mut Writer, told: Told)
+    ensures { SameRoom out.old out.new }
+{
     put(
         out,
         "; currentEpoch %, lastVoteEpoch %\n",
@@ -90,7 +101,9 @@ fn put_below(out: &mut Writer, told: Told) {
 // ---- a call's line
 
 // An answer begins with its number.
-fn put_answer(out: &mut Writer, answer: Answer) {
+fn put_answer(out: &mut Writer, answer: Answer)
+    ensures { SameRoom out.old out.new }
+{
     put(out, "% ", &[u64::from(answers::number(answer))]);
     match answer {
         Answer::Heard(tally) => put_heard(out, tally),
@@ -110,7 +123,9 @@ fn put_answer(out: &mut Writer, answer: Answer) {
     }
 }
 
-fn put_heard(out: &mut Writer, tally: Tally) {
+fn put_heard(out: &mut Writer, tally: Tally)
+    ensures { SameRoom out.old out.new }
+{
     put(
         out,
         "heard, bound %, rebound %",
@@ -162,7 +177,9 @@ fn name(answer: Answer) -> &'static str {
 }
 
 // Where a key goes, or a refusal.
-pub fn put_redirect(out: &mut Writer, redirect: Redirect) {
+pub fn put_redirect(out: &mut Writer, redirect: Redirect)
+    ensures { SameRoom out.old out.new }
+{
     match redirect {
         Redirect::WrongLength => put_answer(out, Answer::WrongLength),
         Redirect::Unsound => put_answer(out, Answer::Unsound),
@@ -180,7 +197,9 @@ pub fn put_redirect(out: &mut Writer, redirect: Redirect) {
 }
 
 // Why a lookup does not start, or what a node replied to it: `lookups` and `gateway` promise a refusal by its number.
-pub fn put_refusal(out: &mut Writer, number: u8) {
+pub fn put_refusal(out: &mut Writer, number: u8)
+    ensures { SameRoom out.old out.new }
+{
     match number {
         1 => put_answer(out, Answer::WrongLength),
         3 => put_answer(out, Answer::UnknownNode),
@@ -190,7 +209,9 @@ pub fn put_refusal(out: &mut Writer, number: u8) {
 }
 
 // What is kept of a feed's line that has not ended yet.
-fn put_unended(out: &mut Writer, length: usize) {
+fn put_unended(out: &mut Writer, length: usize)
+    ensures { SameRoom out.old out.new }
+{
     if length > scraps::ROOM {
         put(out, "no line yet, it is too long already", &[]);
     } else {
@@ -201,7 +222,9 @@ fn put_unended(out: &mut Writer, length: usize) {
 // ---- below it
 
 // The nodes whose flag is another one.
-fn put_changes(out: &mut Writer, told: Told) {
+fn put_changes(out: &mut Writer, told: Told)
+    ensures { SameRoom out.old out.new }
+{
     for k in 0..tables::NODES {
         let flag = told.after[k];
         if flag != told.before[k] {
@@ -220,7 +243,9 @@ fn flagged(flag: u8) -> &'static str {
 
 // What came with a frame's answer, said by the node that the frame names: claims, a vote of the epoch `voted`, or a win of
 // the epoch `config`.
-fn put_news(out: &mut Writer, answer: Answer, told: Told) {
+fn put_news(out: &mut Writer, answer: Answer, told: Told)
+    ensures { SameRoom out.old out.new }
+{
     match answer {
         Answer::Heard(tally) => put_tally(out, told.named, tally),
         Answer::Granted => put(
@@ -237,7 +262,9 @@ fn put_news(out: &mut Writer, answer: Answer, told: Told) {
     }
 }
 
-fn put_tally(out: &mut Writer, node: u64, tally: Tally) {
+fn put_tally(out: &mut Writer, node: u64, tally: Tally)
+    ensures { SameRoom out.old out.new }
+{
     if tally.bound > 0 {
         let count = tally.bound as u64;
         put(
@@ -256,7 +283,9 @@ fn put_tally(out: &mut Writer, node: u64, tally: Tally) {
 }
 
 // An election that was opened.
-fn put_opened(out: &mut Writer, election: Option<Election>) {
+fn put_opened(out: &mut Writer, election: Option<Election>)
+    ensures { SameRoom out.old out.new }
+{
     if let Some(Election { epoch, voters, .. }) = election {
         put(out, "  election opened for epoch %, voters", &[epoch]);
         put_voters(out, voters);
@@ -264,7 +293,9 @@ fn put_opened(out: &mut Writer, election: Option<Election>) {
     }
 }
 
-fn put_voters(out: &mut Writer, voters: NodeSet) {
+fn put_voters(out: &mut Writer, voters: NodeSet)
+    ensures { SameRoom out.old out.new }
+{
     let begin = out.end;
     for k in 0..tables::MOST_NODES {
         if nodesets::has(voters, k) {
@@ -275,7 +306,9 @@ fn put_voters(out: &mut Writer, voters: NodeSet) {
 }
 
 // An empty list.
-fn put_none(out: &mut Writer, begin: usize) {
+fn put_none(out: &mut Writer, begin: usize)
+    ensures { SameRoom out.old out.new }
+{
     if out.end <= begin {
         put(out, " none", &[]);
     }
@@ -284,7 +317,9 @@ fn put_none(out: &mut Writer, begin: usize) {
 // ---- at the end
 
 // A node: who it is, how many slots it owns and which nodes it has flagged.
-fn put_last(out: &mut Writer, told: Told, role: Role, slots: u64) {
+fn put_last(out: &mut Writer, told: Told, role: Role, slots: u64)
+    ensures { SameRoom out.old out.new }
+{
     match role {
         Role::Master => put(out, "node %: master", &[told.node]),
         Role::Replica(master) => {
@@ -300,7 +335,9 @@ fn put_last(out: &mut Writer, told: Told, role: Role, slots: u64) {
     put(out, "\n", &[]);
 }
 
-fn put_flags(out: &mut Writer, flags: [u8; tables::NODES]) {
+fn put_flags(out: &mut Writer, flags: [u8; tables::NODES])
+    ensures { SameRoom out.old out.new }
+{
     let begin = out.end;
     for (k, flag) in flags.iter().enumerate() {
         match *flag {
@@ -323,7 +360,9 @@ pub struct Win {
 }
 
 // Each of the first wins, in the order won, and whether an earlier one was of the same epoch.
-pub fn put_wins(out: &mut Writer, wins: &[Win; WINS], won: usize) {
+pub fn put_wins(out: &mut Writer, wins: &[Win; WINS], won: usize)
+    ensures { SameRoom out.old out.new }
+{
     if won == 0 {
         put(out, "no epoch was won\n", &[]);
     }

@@ -1,0 +1,6 @@
+-- `tellings::put_flags`: the buffer keeps its length.
+use Rattle.lines.specs.Writers.{SameRoom}
+use Rattle.tellings.proofs.put_flags.Given as goal
+
+abbrev pub invariant-loop-k : goal.invariant-loop-k
+invariant-loop-k l = SameRoom l.initial.out l.out
