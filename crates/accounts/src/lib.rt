@@ -1,18 +1,25 @@
 // The lines that `replay` prints of a lookup: docs/REPLAY.md, "What is printed".
 #![tactic(auto)]
 
+ghost use Rattle.lines.specs.Writers.{SameRoom};
+
 use lines::Writer;
 use lookups::{End, Key, Lookup, Question, Stage};
 use routing::Redirect;
 use tellings::put;
 
-fn put_key(out: &mut Writer, key: Key) {
+#[tactic(auto, using(lines::proofs::Writers::same_room))]
+fn put_key(out: &mut Writer, key: Key)
+    ensures { SameRoom out.old out.new }
+{
     let bytes = key.bytes;
     out.put_text(lookups::part(&bytes, key.length));
 }
 
 // How a lookup ends. A refusal is told by its number and name.
-fn put_end(out: &mut Writer, end: End) {
+fn put_end(out: &mut Writer, end: End)
+    ensures { SameRoom out.old out.new }
+{
     match end {
         End::Served(node) => put(out, "served by node %", &[u64::from(node)]),
         End::Bad => put(
@@ -35,7 +42,9 @@ fn put_end(out: &mut Writer, end: End) {
 // ---- a lookup's lines
 
 // Whose lookup it is, and of which key; or why it does not start.
-pub fn put_start(out: &mut Writer, count: u64, lookup: Lookup) {
+pub fn put_start(out: &mut Writer, count: u64, lookup: Lookup)
+    ensures { SameRoom out.old out.new }
+{
     put(out, "% household %: ", &[count, lookup.household]);
     match lookup.stage {
         Stage::Ended(end) => put_end(out, end),
@@ -49,7 +58,9 @@ pub fn put_start(out: &mut Writer, count: u64, lookup: Lookup) {
 
 // A question, and what the node replied. A first one goes to the cached owner, and is told with the epoch that a MOVED is
 // held against; or to node 0.
-pub fn put_question(out: &mut Writer, question: Question, cached: Option<u64>, redirect: Redirect) {
+pub fn put_question(out: &mut Writer, question: Question, cached: Option<u64>, redirect: Redirect)
+    ensures { SameRoom out.old out.new }
+{
     let node = u64::from(question.node);
     match cached {
         _ if question.asking => put(out, "  asks node % with ASKING: ", &[node]),
@@ -63,7 +74,9 @@ pub fn put_question(out: &mut Writer, question: Question, cached: Option<u64>, r
 
 // What comes out: the household and the key that the lookup carries, and how it ended. Where the gateway refused, that was
 // told where the lookup starts, and nothing more.
-pub fn put_account(out: &mut Writer, lookup: Lookup) {
+pub fn put_account(out: &mut Writer, lookup: Lookup)
+    ensures { SameRoom out.old out.new }
+{
     match lookup.stage {
         Stage::Asking(_) | Stage::Ended(End::Refused(_)) => {}
         Stage::Ended(end) => {
