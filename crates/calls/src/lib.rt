@@ -2,6 +2,8 @@
 // `arguments`; that a line's words are looked at in their places is held to stored output.
 #![tactic(auto)]
 
+ghost use Rattle.lines.specs.Writers.{SameRoom};
+
 use lines::Writer;
 
 // What a line says, by its first word; or what it is where no form says it.
@@ -197,7 +199,10 @@ fn form_of(word: &[u8]) -> Form {
 }
 
 // The form as it is shown.
-pub fn put_form(out: &mut Writer, form: Form) {
+#[tactic(auto, using(lines::proofs::Writers::same_room))]
+pub fn put_form(out: &mut Writer, form: Form)
+    ensures { SameRoom out.old out.new }
+{
     out.put_text(shape_of(form).shown.as_bytes());
 }
 
@@ -374,7 +379,9 @@ fn claims(text: &[u8], table: &mut [u16]) {
 }
 
 // A frame's line: the digits, and behind them the bitmap where slots are claimed.
-pub fn frame(line: &[u8], out: &mut Writer) {
+pub fn frame(line: &[u8], out: &mut Writer)
+    ensures { SameRoom out.old out.new }
+{
     let text = words::said(line);
     out.put_text(word_of(text, 2));
     if !word_of(text, 3).is_empty() {
