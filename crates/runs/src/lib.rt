@@ -2,6 +2,7 @@
 #![tactic(auto)]
 
 ghost use Rattle.std.specs.Prelude.{◌≡◌, ◌≤◌};
+ghost use Rattle.lines.specs.Writers.{SameRoom};
 ghost use Rattle.runs.specs.Runs.{nobody, reached, answer_of, remembered, the_end};
 
 use answers::Answer;
@@ -99,7 +100,9 @@ fn fault_of(call: Call, run: Run) -> Option<Fault> {
 }
 
 // A line that does not fit, or cannot be done.
-fn put_fault(out: &mut Writer, count: u64, form: Form, fault: Fault) {
+fn put_fault(out: &mut Writer, count: u64, form: Form, fault: Fault)
+    ensures { SameRoom out.old out.new }
+{
     put(out, "% bad line, nothing done: ", &[count]);
     match fault {
         Fault::NoForm => put(out, "no call begins like that", &[]),
@@ -176,7 +179,8 @@ pub struct Heard {
 }
 
 pub fn hear(call: Call, count: u64, run: Run, out: &mut Writer) -> Heard
-    ensures { result.nodes.end ≤ 16 }
+    ensures within { result.nodes.end ≤ 16 }
+    ensures same_room { SameRoom out.old out.new }
 {
     if let Some(fault) = fault_of(call, run) {
         put_fault(out, count, call.form, fault);
