@@ -2,6 +2,7 @@
 #![tactic(auto)]
 
 ghost use Rattle.std.specs.Prelude.{◌≡◌, ◌%◌, take};
+ghost use Rattle.lines.specs.Writers.{SameRoom};
 ghost use Rattle.cache.specs.Cache.{map_of};
 ghost use Rattle.gateway.specs.Gateway.{asked};
 ghost use Rattle.walks.specs.Walks.{most_questions, table_of, holds, walked, LookedUp};
@@ -64,7 +65,8 @@ fn ask(
     present: bool,
     out: &mut Writer,
 ) -> Lookup
-    ensures { record { lookup = result; map = map_of map.new epochs.new } ≡ asked lookup (map_of map.old epochs.old) size node table.now present }
+    ensures taken { record { lookup = result; map = map_of map.new epochs.new } ≡ asked lookup (map_of map.old epochs.old) size node table.now present }
+    ensures same_room { SameRoom out.old out.new }
 {
     let key = lookup.key;
     let name = lookups::part(&key.bytes, key.length);
@@ -85,7 +87,8 @@ fn walk(
     call: Call,
     out: &mut Writer,
 ) -> Lookup
-    ensures { record { lookup = result; map = map_of map.new epochs.new } ≡ walked seats slots.now call size most_questions start (map_of map.old epochs.old) }
+    ensures taken { record { lookup = result; map = map_of map.new epochs.new } ≡ walked seats slots.now call size most_questions start (map_of map.old epochs.old) }
+    ensures same_room { SameRoom out.old out.new }
 {
     let mut lookup = start;
     for _asked in 0..lookups::HOPS + 1 {
@@ -111,7 +114,8 @@ pub fn look_up(
     call: Call,
     out: &mut Writer,
 )
-    ensures { LookedUp seats slots.now call (size % 65536) (map_of map.old epochs.old) (map_of map.new epochs.new) }
+    ensures looked_up { LookedUp seats slots.now call (size % 65536) (map_of map.old epochs.old) (map_of map.new epochs.new) }
+    ensures same_room { SameRoom out.old out.new }
 {
     let kept = source.kept;
     let roster = seats::short(size);
