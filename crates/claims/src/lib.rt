@@ -24,7 +24,9 @@ pub fn first_newer(
 ) -> Option<usize>
     ensures { result ≡ first_at (newer_owner size (λ o. get_or configs.now o 0) bitmap.now config) slots.now }
 {
-    for from in (0..slots.len()).step_by(64) {
+    // No `step_by`: with it an empty bitmap takes half as long again, measured.
+    let mut from: usize = 0;
+    while from < slots.len() {
         let mut word = bitmaps::word_at(bitmap, from / 8, slots.len() - from);
         // A word's bits, each turn without the lowest: no place is counted.
         while word != 0 {
@@ -35,6 +37,7 @@ pub fn first_newer(
                 return Some(s);
             }
         }
+        from += 64;
     }
     None
 }

@@ -8,7 +8,6 @@ ghost use Rattle.ownership.specs.Claim.{claimant, fate, claim};
 ghost use Rattle.ownership.specs.Own.{owned_by, all_own};
 
 use answers::Tally;
-use std::cmp::Ordering;
 
 // What a claim of a slot comes to.
 #[derive(Clone, Copy)]
@@ -34,10 +33,14 @@ fn fate_of(owner: u16, configs: &[u64], size: u16, sender: u16, config: u64) -> 
     if owner == sender {
         return Fate::Stays;
     }
-    match records::known_at(configs, owner as usize).cmp(&config) {
-        Ordering::Less => Fate::Rebound,
-        Ordering::Greater => Fate::Stale,
-        Ordering::Equal => Fate::Stays,
+    // By two tests, measured: with `cmp` and a match a claim of others' slots takes twice as long.
+    let known = records::known_at(configs, owner as usize);
+    if known < config {
+        Fate::Rebound
+    } else if known > config {
+        Fate::Stale
+    } else {
+        Fate::Stays
     }
 }
 
@@ -94,7 +97,9 @@ pub fn claim(
     let mut bound: usize = 0;
     let mut rebound: usize = 0;
     let mut stale = None;
-    for from in (0..slots.len()).step_by(64) {
+    // No `step_by`, measured: with it a claim of others' slots takes twice as long.
+    let mut from: usize = 0;
+    while from < slots.len() {
         let mut word = pending(slots, bitmap, from, size, sender);
         // A word's bits, each turn without the lowest: no place is counted.
         while word != 0 {
@@ -114,6 +119,7 @@ pub fn claim(
                 Fate::Stays => {}
             }
         }
+        from += 64;
     }
     Tally {
         bound,

@@ -51,7 +51,3 @@ loop-from-preserved c = (omega (arith, c.loop-from.invariant.0), closes c.loop-w
 
 pub returns : goal.returns
 returns c = arrived _ _ c.loop-from.invariant.1 c.loop-from-test.false
-
--- at the last 64 there is no next place
-pub returns-2 : goal.returns-2
-returns-2 c = arrived _ _ (closes c.loop-word.invariant c.loop-word-test.false) (omega arith)

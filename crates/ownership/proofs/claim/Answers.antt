@@ -12,7 +12,7 @@ pub loop-from-init : goal.loop-from-init
 loop-from-init c = (refl, begin)
 
 pub pending-word-requires : goal.pending-word-requires
-pending-word-requires c = (omega (arith, c.loop-from.invariant.1.long), c.loop-from.invariant.0)
+pending-word-requires c = (c.loop-from-test.true, c.loop-from.invariant.0)
 
 pub loop-word-init : goal.loop-word-init
 loop-word-init c = starts_reading (onwards c.loop-from.invariant.1) c.pending-word.ensures
@@ -78,10 +78,4 @@ pub shape_of-slots : goal.shape_of-slots
 shape_of-slots c = c.loop-from.invariant.1.long
 
 pub returns : goal.returns
-returns c = finish c.loop-from.invariant.1 (omega (arith, c.loop-from.invariant.1.long))
-
--- at the last 64 there is no next place
-pub returns-2 : goal.returns-2
-returns-2 c =
-    let i = joined c.loop-from.invariant.1 (closes c.loop-word.invariant c.loop-word-test.false) in
-    finish i (omega (arith, i.long))
+returns c = finish c.loop-from.invariant.1 c.loop-from-test.false
