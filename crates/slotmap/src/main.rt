@@ -162,10 +162,11 @@ fn take<R: Read>(input: &mut R, buf: &mut [u8]) -> Result<usize, Unread> {
     Err(Unread::TooLong)
 }
 
-// Adds what is said of a table. The list has room for its ranges.
+// What is said of a table, from the front of the buffer on. The list has room for its ranges.
 fn put_table(slots: &[u16; SLOTS], size: u16, list: &mut [u16; LIST], out: &mut Writer)
-    ensures { out.new ≡ extended out.old (in_words size slots.now) }
+    ensures { out.new ≡ extended (record out.old { end = 0 }) (in_words size slots.now) }
 {
+    out.end = 0;
     let count = listing::list_whole(slots, size, list);
     aloud::put_listing(out, b"", aloud::front(list, count));
     totals::put_totals(out, slots, size);

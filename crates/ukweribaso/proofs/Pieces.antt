@@ -70,3 +70,8 @@ module _ {x : Called} (s : Station) (piece : List ℕ) (from : ℕ) (e : x ≡ f
   pub finished : x.told ≡ None → (stream s (drop from piece)).after ≡ x.after
   unfolding stream
   finished q = left ∙ rw (ap (λ (y : Called). y.used) e ∙ to_the_end s (onwards piece from) (told q), drop-length (onwards piece from))
+
+-- a read that gave no byte leaves the station as it is
+pub nothing_read : (s : Station) (buf : List ℕ) {got n : ℕ} → got ≡ n → got ≡ 0 → s ≡ (stream s (take n buf)).after
+unfolding stream
+nothing_read s buf e z = rw (← e, z)

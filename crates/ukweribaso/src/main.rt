@@ -2,13 +2,15 @@
 // answer, currentEpoch and lastVoteEpoch on standard output. The input is fed in pieces, as they are read.
 #![tactic(auto)]
 
-ghost use Rattle.std.specs.Prelude.{◌≡◌, take};
+ghost use Rattle.std.specs.Prelude.{◌≡◌, take, unwrap_or};
+ghost use Rattle.std.specs.Result.{result_unwrap_or};
 ghost use Rattle.feed.specs.Feed.{station};
 ghost use Rattle.streams.specs.Streams.{stream};
 
 use lines::Writer;
 use scraps::Kept;
 use state::Node;
+use std::io;
 use std::io::Read;
 
 // Entries of the slot table.
@@ -61,20 +63,25 @@ fn answer_lines(
     }
 }
 
-// Feeds the node what was read: as many bytes of the buffer as the read answered.
+// Feeds the node what was read: as many bytes of the buffer as the read answered. Where it failed, or the input has ended, there
+// are none, and nothing is held on to.
 fn take_in(
     rt: &impl Print,
     held: Held,
     slots: &mut [u16],
     reports: &mut [u64],
     buf: &[u8],
-    got: usize,
+    got: io::Result<usize>,
     out: &mut Writer,
-) -> Held
-    ensures { station result.node slots.new reports.new result.kept ≡ (stream (station held.node slots.old reports.old held.kept) (take got buf.now)).after }
+) -> Option<Held>
+    ensures { station (unwrap_or result held).node slots.new reports.new (unwrap_or result held).kept ≡ (stream (station held.node slots.old reports.old held.kept) (take (result_unwrap_or got 0) buf.now)).after }
 {
-    let read = buf.get(..got).unwrap_or(buf);
-    answer_lines(rt, held, slots, reports, read, out)
+    let count = got.unwrap_or(0);
+    if count == 0 {
+        return None;
+    }
+    let read = buf.get(..count).unwrap_or(buf);
+    Some(answer_lines(rt, held, slots, reports, read, out))
 }
 
 // Reads until the input ends or a read fails. A proved loop has to end, and nothing says that the input does, so it counts up to a
@@ -92,13 +99,11 @@ fn run<R: Read>(
         kept: scraps::none(),
     };
     for _ in 0..u64::MAX {
-        let Ok(got) = input.read(buf) else {
+        let got = input.read(buf);
+        let Some(next) = take_in(rt, held, slots, reports, buf, got, out) else {
             return;
         };
-        if got == 0 {
-            return;
-        }
-        held = take_in(rt, held, slots, reports, buf, got, out);
+        held = next;
     }
 }
 

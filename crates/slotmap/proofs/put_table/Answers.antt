@@ -24,4 +24,4 @@ unfolding in_words
 returns c =
     let a = c.args in
     let e = ap ranges_of c.front.ensures ∙ read_back (listing a.size a.slots.now) a.list.now _ _ c.list_whole-count.ensures.0 c.list_whole-count.ensures.1 in
-    then _ _ _ (c.put_listing.ensures ∙ ap (λ (qs : List Range). extended a.out.now (spoken [] qs)) e) c.put_totals.ensures
+    then _ _ _ (c.put_listing.ensures ∙ ap (λ (qs : List Range). extended (record a.out.now { end = 0 }) (spoken [] qs)) e) c.put_totals.ensures
