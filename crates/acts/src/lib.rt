@@ -31,14 +31,29 @@ fn finished(seat: Seat, said: Said) -> Done {
 }
 
 fn answered(seat: Seat, outcome: Outcome) -> Done {
-    let node = outcome.node;
-    finished(Seat { node, ..seat }, Said::Answered(outcome.answer))
+    finished(
+        seats::seated(outcome.node, seat),
+        Said::Answered(outcome.answer),
+    )
 }
 
-// ---- what a line writes
+// ---- what a line writes; each form has a function of its own, since what one function lays out it clears for every line
+
+// A node of the roster, before anything is known of it.
+fn begin(said: [u64; WORDS], k: usize) -> Done {
+    finished(seats::newcomer(said[1], k), Said::Nothing)
+}
 
 fn listed(seat: Seat, node: Node) -> Done {
-    finished(Seat { node, ..seat }, Said::Nothing)
+    finished(seats::seated(node, seat), Said::Nothing)
+}
+
+fn do_replica(seat: Seat, said: [u64; WORDS]) -> Done {
+    listed(seat, seats::follow(seat.node, said[1], said[3]))
+}
+
+fn do_timeout(seat: Seat, said: [u64; WORDS]) -> Done {
+    listed(seat, seats::wait(seat.node, said[2]))
 }
 
 // Entries of its slot table.
@@ -74,10 +89,9 @@ fn do_frame(seat: Seat, slots: &mut [u16], reports: &mut [u64], line: &[u8]) -> 
     calls::frame(line, &mut text);
     let end = text.end;
     let frame = sources::part(&room, 0, end);
-    Done {
-        named: arguments::named(frame),
-        ..answered(seat, node::frame(seat.node, slots, reports, frame))
-    }
+    let mut done = answered(seat, node::frame(seat.node, slots, reports, frame));
+    done.named = arguments::named(frame);
+    done
 }
 
 // The node that a line of a feed names, if the line ends in this piece.
@@ -114,6 +128,14 @@ fn do_piece(
         named: named_in(seat.kept, piece),
         handed: handed_to(sources::further(handed, fed.used), end),
     }
+}
+
+fn do_open(seat: Seat, slots: &[u16], said: [u64; WORDS]) -> Done {
+    answered(seat, node::open_election(seat.node, slots, said[2]))
+}
+
+fn do_unmark(seat: Seat, said: [u64; WORDS]) -> Done {
+    answered(seat, node::clear_mark(seat.node, seats::short(said[2])))
 }
 
 fn do_mark(seat: Seat, slots: &[u16], said: [u64; WORDS], movement: Move) -> Done {
@@ -176,20 +198,19 @@ pub fn act(
     call: Call,
     handed: usize,
 ) -> Done {
-    let node = seat.node;
     let said = call.numbers;
     match call.form {
-        Form::Roster => finished(seats::newcomer(said[1], k), Said::Nothing),
-        Form::Replica => listed(seat, seats::follow(node, said[1], said[3])),
-        Form::Timeout => listed(seat, seats::wait(node, said[2])),
+        Form::Roster => begin(said, k),
+        Form::Replica => do_replica(seat, said),
+        Form::Timeout => do_timeout(seat, said),
         Form::Slots => give(seat, slots, line, said[3]),
         Form::Report => stamp(seat, reports, said),
         Form::Frame => do_frame(seat, slots, reports, line),
         Form::Piece => do_piece(seat, slots, reports, line, handed),
-        Form::Open => answered(seat, node::open_election(node, slots, said[2])),
+        Form::Open => do_open(seat, slots, said),
         Form::Migrate => do_mark(seat, slots, said, Move::Migrating(seats::small(said[4]))),
         Form::Import => do_mark(seat, slots, said, Move::Importing(seats::small(said[4]))),
-        Form::Unmark => answered(seat, node::clear_mark(node, seats::short(said[2]))),
+        Form::Unmark => do_unmark(seat, said),
         Form::Key => do_key(seat, slots, calls::word(line, 2), said),
         Form::Hexkey => do_hexkey(seat, slots, calls::word(line, 2), said),
         Form::Ranges => do_ranges(seat, slots, list, call),

@@ -2,7 +2,9 @@
 // `arguments`; that a line's words are looked at in their places is held to stored output.
 #![tactic(auto)]
 
+ghost use Rattle.std.specs.Prelude.{◌≡◌};
 ghost use Rattle.lines.specs.Writers.{SameRoom};
+ghost use Rattle.calls.specs.Forms.{numbered};
 
 use lines::Writer;
 
@@ -52,6 +54,21 @@ const FORMS: [Form; 15] = [
     Form::Ranges,
     Form::Lookup,
 ];
+
+// The form that a number stands for, for callers that hold numbers: each has one.
+pub fn numbered(number: u8) -> Form
+    ensures { result ≡ numbered number }
+{
+    match number {
+        253 => Form::Summary,
+        254 => Form::Silent,
+        255 => Form::TooLong,
+        _ => FORMS
+            .get(usize::from(number))
+            .copied()
+            .unwrap_or(Form::Unknown),
+    }
+}
 
 // What stands at a place of a form.
 #[derive(Clone, Copy)]
@@ -191,7 +208,7 @@ fn place_of(form: Form, place: usize) -> Place {
 // The form that has a word for its name.
 fn form_of(word: &[u8]) -> Form {
     for form in FORMS {
-        if word == word_of(shape_of(form).shown.as_bytes(), 0) {
+        if words::same(word, word_of(shape_of(form).shown.as_bytes(), 0)) {
             return form;
         }
     }
@@ -225,7 +242,7 @@ pub fn word(line: &[u8], i: usize) -> &[u8] {
 
 // 1 for the word that is wanted.
 fn literal(word: &[u8], wanted: &str) -> Option<u64> {
-    (word == wanted.as_bytes()).then_some(1)
+    words::same(word, wanted.as_bytes()).then_some(1)
 }
 
 // 0 for a word that says no number.
@@ -239,18 +256,17 @@ fn number(word: &[u8], kind: u8) -> Option<u64> {
 }
 
 fn node_or_all(word: &[u8]) -> Option<u64> {
-    match word {
-        b"all" => Some(ALL),
-        _ => number(word, b'n'),
+    if words::same(word, b"all") {
+        return Some(ALL);
     }
+    number(word, b'n')
 }
 
 fn presence(word: &[u8]) -> Option<u64> {
-    match word {
-        b"present" => Some(1),
-        b"absent" => Some(0),
-        _ => None,
+    if words::same(word, b"present") {
+        return Some(1);
     }
+    words::same(word, b"absent").then_some(0)
 }
 
 fn is_hex(word: &[u8]) -> bool {
@@ -334,9 +350,19 @@ fn read_words(form: Form, text: &[u8]) -> Call {
     }
 }
 
+// A line without the blanks at its end, so that they are not taken for words one by one: a line may be all blanks.
+fn trimmed(line: &[u8]) -> &[u8] {
+    for last in (0..line.len()).rev() {
+        if line[last] > b' ' {
+            return &line[..last + 1];
+        }
+    }
+    &line[..0]
+}
+
 // What a line says.
 pub fn read(line: &[u8]) -> Call {
-    let text = words::said(line);
+    let text = words::said(trimmed(line));
     let name = word_of(text, 0);
     if name.is_empty() {
         return silent();
@@ -378,6 +404,16 @@ fn claims(text: &[u8], table: &mut [u16]) {
     }
 }
 
+// The bitmap of the claimed slots. It stands by itself, since its table would be cleared for every frame.
+#[tactic(auto, using(lines::proofs::Writers::same_room))]
+fn put_bitmap(text: &[u8], out: &mut Writer)
+    ensures { SameRoom out.old out.new }
+{
+    let mut table = [0u16; tables::SLOTS as usize];
+    claims(text, &mut table);
+    arguments::put_digits(&table, out);
+}
+
 // A frame's line: the digits, and behind them the bitmap where slots are claimed.
 pub fn frame(line: &[u8], out: &mut Writer)
     ensures { SameRoom out.old out.new }
@@ -385,8 +421,6 @@ pub fn frame(line: &[u8], out: &mut Writer)
     let text = words::said(line);
     out.put_text(word_of(text, 2));
     if !word_of(text, 3).is_empty() {
-        let mut table = [0u16; tables::SLOTS as usize];
-        claims(text, &mut table);
-        arguments::put_digits(&table, out);
+        put_bitmap(text, out);
     }
 }

@@ -152,7 +152,7 @@ fn play_lines<R: Read>(
         let heard = runs::hear(call_of(source), source.count, run, out);
         let call = heard.call;
         run = heard.run;
-        for k in heard.nodes {
+        for k in heard.first..heard.last {
             let slots = &mut slots[k * SLOTS..(k + 1) * SLOTS];
             let times = &mut times[k * REPORTS..(k + 1) * REPORTS];
             let turn = take_turn(seats[k], slots, times, list, out, k, source, call, run);

@@ -171,31 +171,35 @@ fn after(past: Run, call: Call) -> Run {
 
 // A line that was heard: what is done, nothing where something is wrong with it; the nodes that it is about, and the run
 // after it.
-#[derive(Drop)]
+#[derive(Clone, Copy)]
 pub struct Heard {
     pub call: Call,
-    pub nodes: Range<usize>,
+    pub first: usize,
+    pub last: usize,
     pub run: Run,
 }
 
 pub fn hear(call: Call, count: u64, run: Run, out: &mut Writer) -> Heard
-    ensures within { result.nodes.end ≤ 16 }
+    ensures within { result.last ≤ 16 }
     ensures same_room { SameRoom out.old out.new }
 {
     if let Some(fault) = fault_of(call, run) {
         put_fault(out, count, call.form, fault);
         return Heard {
             call: calls::silent(),
-            nodes: 0..0,
+            first: 0,
+            last: 0,
             run,
         };
     }
     if call.form == Form::Summary {
         put(out, "summary\n", &[]);
     }
+    let nodes = span_of(call, run.size);
     Heard {
         call,
-        nodes: span_of(call, run.size),
+        first: nodes.start,
+        last: nodes.end,
         run: after(run, call),
     }
 }

@@ -4,7 +4,7 @@ use Rattle.lines.proofs.Writers.{same_room}
 use Rattle.calls.proofs.frame.Goals as goal
 
 pub returns-then-not-is_empty : goal.returns-then-not-is_empty
-returns-then-not-is_empty c = same_room _ _ c.put_digits.ensures ∙ same_room _ _ c.put_text.ensures
+returns-then-not-is_empty c = c.put_bitmap.ensures ∙ same_room _ _ c.put_text.ensures
 
 pub returns-else-not-is_empty : goal.returns-else-not-is_empty
 returns-else-not-is_empty c = same_room _ _ c.put_text.ensures
