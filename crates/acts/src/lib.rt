@@ -37,7 +37,7 @@ fn answered(seat: Seat, outcome: Outcome) -> Done {
     )
 }
 
-// ---- what a line writes; each form has a function of its own, since what one function lays out it clears for every line
+// ---- what a line writes
 
 // A node of the roster, before anything is known of it.
 fn begin(said: [u64; WORDS], k: usize) -> Done {
@@ -187,7 +187,8 @@ fn last_seen(seat: Seat, slots: &[u16], k: usize) -> Done {
 // ---- a line, done
 
 // What a line does to node k, whose tables are lent, and a list for the ranges of its slots. A lookup is no node's: it is done
-// where all nodes are.
+// where all nodes are. Each form is done in a function of its own: what one function lays out, for whichever form, is cleared
+// for every line.
 pub fn act(
     seat: Seat,
     slots: &mut [u16],

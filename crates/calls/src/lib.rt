@@ -225,17 +225,55 @@ pub fn put_form(out: &mut Writer, form: Form)
 
 // ---- words
 
+// A text from its first character on that is no blank.
+fn from_a_word(text: &[u8]) -> &[u8] {
+    for first in 0..text.len() {
+        if text[first] > b' ' {
+            return &text[first..];
+        }
+    }
+    &text[..0]
+}
+
+// A text without the blanks around it.
+fn trimmed(text: &[u8]) -> &[u8] {
+    for last in (0..text.len()).rev() {
+        if text[last] > b' ' {
+            return from_a_word(&text[..last + 1]);
+        }
+    }
+    &text[..0]
+}
+
+// What a line says without its comment. Blanks are taken off first: a line may be all blanks, and is not searched for one then.
+fn text_of(line: &[u8]) -> &[u8] {
+    words::said(trimmed(line))
+}
+
+// The first word of a text, and what stands behind it; the empty word where there is none. Not by `split`, which makes an empty
+// part of each blank: long stretches of blanks took twice as long, measured.
+fn cut(text: &[u8]) -> (&[u8], &[u8]) {
+    let rest = from_a_word(text);
+    for end in 0..rest.len() {
+        if rest[end] <= b' ' {
+            return rest.split_at(end);
+        }
+    }
+    rest.split_at(rest.len())
+}
+
 // Word i of a text that has no comment, counted from 0; the empty word where there are fewer.
 fn word_of(text: &[u8], i: usize) -> &[u8] {
-    text.split(|c| *c <= b' ')
-        .filter(|word| !word.is_empty())
-        .nth(i)
-        .unwrap_or(b"")
+    let mut rest = text;
+    for _ in 0..i {
+        rest = cut(rest).1;
+    }
+    cut(rest).0
 }
 
 // Word i of a line.
 pub fn word(line: &[u8], i: usize) -> &[u8] {
-    word_of(words::said(line), i)
+    word_of(text_of(line), i)
 }
 
 // ---- a word by what has to stand at its place: the number that it says, if it fits
@@ -328,19 +366,28 @@ pub fn too_long() -> Call {
 // The words of a form. The first that does not fit is named.
 fn read_words(form: Form, text: &[u8]) -> Call {
     let mut numbers = [0; WORDS];
-    let mut words = 0;
-    for word in text.split(|c| *c <= b' ').filter(|word| !word.is_empty()) {
-        if words >= WORDS {
-            return blank(form, Some(WORDS + 1));
+    let mut rest = text;
+    for place in 0..WORDS {
+        let (word, behind) = cut(rest);
+        if word.is_empty() {
+            return ended(form, place, numbers);
         }
-        let Some(number) = fitting(word, place_of(form, words), numbers[1]) else {
-            return blank(form, Some(words + 1));
+        let Some(number) = fitting(word, place_of(form, place), numbers[1]) else {
+            return blank(form, Some(place + 1));
         };
-        numbers[words] = number;
-        words += 1;
+        numbers[place] = number;
+        rest = behind;
     }
+    if !cut(rest).0.is_empty() {
+        return blank(form, Some(WORDS + 1));
+    }
+    ended(form, WORDS, numbers)
+}
+
+// A line that ends after so many words.
+fn ended(form: Form, words: usize, numbers: [u64; WORDS]) -> Call {
     if !may_end(place_of(form, words)) {
-        return blank(form, Some(words + 1));
+        return blank(form, Some(words.saturating_add(1)));
     }
     Call {
         form,
@@ -350,19 +397,9 @@ fn read_words(form: Form, text: &[u8]) -> Call {
     }
 }
 
-// A line without the blanks at its end, so that they are not taken for words one by one: a line may be all blanks.
-fn trimmed(line: &[u8]) -> &[u8] {
-    for last in (0..line.len()).rev() {
-        if line[last] > b' ' {
-            return &line[..last + 1];
-        }
-    }
-    &line[..0]
-}
-
 // What a line says.
 pub fn read(line: &[u8]) -> Call {
-    let text = words::said(trimmed(line));
+    let text = text_of(line);
     let name = word_of(text, 0);
     if name.is_empty() {
         return silent();
@@ -395,16 +432,20 @@ fn is_strange(place: Place, number: u64, size: u64) -> bool {
 
 // The slots that a line's ranges claim: words 4 and on.
 fn claims(text: &[u8], table: &mut [u16]) {
-    for range in text
-        .split(|c| *c <= b' ')
-        .filter(|word| !word.is_empty())
-        .skip(4)
-    {
-        arguments::give(table, words::first_slot(range), words::last_slot(range), 1);
+    let mut rest = text;
+    for place in 0..WORDS {
+        let (range, behind) = cut(rest);
+        if range.is_empty() {
+            return;
+        }
+        if place >= 4 {
+            arguments::give(table, words::first_slot(range), words::last_slot(range), 1);
+        }
+        rest = behind;
     }
 }
 
-// The bitmap of the claimed slots. It stands by itself, since its table would be cleared for every frame.
+// The bitmap of the claimed slots. It stands by itself, since its table would be cleared for a frame that claims nothing too.
 #[tactic(auto, using(lines::proofs::Writers::same_room))]
 fn put_bitmap(text: &[u8], out: &mut Writer)
     ensures { SameRoom out.old out.new }
@@ -418,7 +459,7 @@ fn put_bitmap(text: &[u8], out: &mut Writer)
 pub fn frame(line: &[u8], out: &mut Writer)
     ensures { SameRoom out.old out.new }
 {
-    let text = words::said(line);
+    let text = text_of(line);
     out.put_text(word_of(text, 2));
     if !word_of(text, 3).is_empty() {
         put_bitmap(text, out);
